@@ -1,0 +1,9 @@
+pub mod Chars
+pub mod Texts
+pub mod Syntax
+pub mod Firsts
+pub mod Counting
+pub mod Starts
+pub mod Walking
+pub mod Placing
+pub mod Changing

@@ -1,0 +1,9 @@
+use Rattle.text.proofs.Placing.{line-within, cut-taken}
+use Rattle.text.proofs.positions.cut.Needs as need
+
+pub measure-requires : need.measure-requires
+measure-requires g c κs = line-within (g .E·PositionEncoding .units (c .args .encoding .now)) (c .args .text .now) (c .args .position) (c .in-Some .start .0) (c .in-Some .ensures tt)
+
+pub returns : need.returns
+returns g c =
+    cut-taken (g .E·PositionEncoding .units (c .args .encoding .now)) (c .args .text .now) (c .args .position) (c .in-Some .start .0) (c .measure .result .0) (c .in-Some .ensures tt) (c .measure .ensures)

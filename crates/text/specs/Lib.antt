@@ -1,0 +1,6 @@
+pub mod Characters
+pub mod Grammar
+pub mod Lines
+pub mod Units
+pub mod Columns
+pub mod Positions
