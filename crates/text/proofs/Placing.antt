@@ -32,8 +32,14 @@ ahead-none-is n None e = refl
 ahead-none-is n (Some m) e = let z : _≡_ {A = ℕ} 0 1 = cc in absurd (omega arith)
 
 module _ (u : ℕ → ℕ) (t : List ℕ) (p : Position) where
-  pub no-line : None ≡ startOf t (p .line) → noLine t p ≡ true
+  no-line : None ≡ startOf t (p .line) → noLine t p ≡ true
   no-line e = ap isNone (sym e)
+
+  pub resolve-no-line : None ≡ startOf t (p .line) → refused 12 tt ≡ resolve-rule u t p
+  resolve-no-line e = let a = no-line e in rw a
+
+  pub cut-no-line : None ≡ startOf t (p .line) → refused 12 tt ≡ cut-rule u t p
+  cut-no-line e = let a = no-line e in rw a
 
   module _ (s : ℕ) (at : Some s ≡ startOf t (p .line)) where
     pub line-there : noLine t p ≡ false

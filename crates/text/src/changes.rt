@@ -2,6 +2,7 @@
 ghost use mathlib.Core.Path.{_≡_};
 ghost use mathlib.Core.Bool.{not};
 ghost use Rattle.refusals.specs.Outcomes.{outcome};
+ghost use Rattle.text.specs.Laws.{ChangesOfTextsAreTexts, EarlierLinesStay};
 ghost use Rattle.text.specs.Positions.{check-rule, unsound, change-rule, leaves};
 use crate::encodings::PositionEncoding;
 use crate::places::Range;
@@ -44,7 +45,9 @@ pub fn change<E: PositionEncoding>(
     range: Range,
     inserted: &[u8],
 ) -> Result<usize, Refusal>
-    ensures { λ r. ⌜ outcome (leaves (now (memory .exit))) r (now (memory .exit)) ≡ change-rule (units (now (encoding .entry))) (now (memory .entry)) length range (now (inserted .entry)) ⌝ }
+    ensures change { λ r. ⌜ outcome (leaves (now (memory .exit))) r (now (memory .exit)) ≡ change-rule (units (now (encoding .entry))) (now (memory .entry)) length range (now (inserted .entry)) ⌝ }
+    ensures texts { λ _. ⌜ ChangesOfTextsAreTexts ⌝ }
+    ensures lines { λ _. ⌜ EarlierLinesStay ⌝ }
 {
     if !holds_text(memory, length) {
         return Err(Refusal::Memory);

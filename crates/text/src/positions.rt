@@ -5,6 +5,7 @@ ghost use lib.ListN.{length, drop};
 ghost use Rattle.refusals.specs.Outcomes.{outcome};
 ghost use Rattle.text.specs.Lines.{placeIn, ahead};
 ghost use Rattle.text.specs.Columns.{wide, lineUnits, seek};
+ghost use Rattle.text.specs.Laws.{PlacesLieBetweenCharacters, PlacesCountTheirColumn, InsideMeansNoSuchColumn, UnitsAreOfCharacters};
 ghost use Rattle.text.specs.Positions.{resolve-rule, cut-rule, range-rule};
 use crate::encodings::PositionEncoding;
 use crate::lines::is_line_end;
@@ -63,7 +64,10 @@ pub fn resolve<E: PositionEncoding>(
     text: &[u8],
     position: Position,
 ) -> Result<Place, Refusal>
-    ensures { λ r. ⌜ outcome (λ p. p .0) r tt ≡ resolve-rule (units (now (encoding .entry))) (now (text .entry)) position ⌝ }
+    ensures place { λ r. ⌜ outcome (λ p. p .0) r tt ≡ resolve-rule (units (now (encoding .entry))) (now (text .entry)) position ⌝ }
+    ensures between { λ _. ⌜ PlacesLieBetweenCharacters ⌝ }
+    ensures column { λ _. ⌜ PlacesCountTheirColumn ⌝ }
+    ensures inner { λ _. ⌜ InsideMeansNoSuchColumn ⌝ }
 {
     let Some(start) = line_start(text, position.line) else {
         return Err(Refusal::NoLine);
@@ -97,7 +101,8 @@ pub fn cut<E: PositionEncoding>(
     text: &[u8],
     position: Position,
 ) -> Result<Column, Refusal>
-    ensures { λ r. ⌜ outcome (λ k. k .0) r tt ≡ cut-rule (units (now (encoding .entry))) (now (text .entry)) position ⌝ }
+    ensures column { λ r. ⌜ outcome (λ k. k .0) r tt ≡ cut-rule (units (now (encoding .entry))) (now (text .entry)) position ⌝ }
+    ensures characters { λ _. ⌜ UnitsAreOfCharacters ⌝ }
 {
     let Some(start) = line_start(text, position.line) else {
         return Err(Refusal::NoLine);

@@ -9,6 +9,7 @@ use Rattle.std.proofs.shelf.Results.{err-from-errBy}
 use Rattle.refusals.specs.Numbers.{numberOf}
 use Rattle.text.specs.Positions.{unsound, range-rule}
 use Rattle.text.proofs.Changing.{bad-memory, bad-text, bad-range, changed, too-long, roomy}
+use Rattle.text.proofs.Lawful.{changes-of-texts-are-texts, earlier-lines-stay}
 use Rattle.text.proofs.changes.change.Needs as need
 
 flipped : (v b : Bool) → b ≡ not v → v ≡ not b
@@ -23,8 +24,8 @@ returns-then-not-holds-text g c =
     let u = g .E·PositionEncoding .units (c .args .encoding .now) in
     let m = c .args .memory .now in
     let n = c .args .length in
-    bad-memory u m n (c .args .range) (c .args .inserted .now)
-    (flipped (unsound m n) _ (c .holds-text .ensures) ∙ ap not (c .if-not-holds-text .taken))
+    let bad = flipped (unsound m n) _ (c .holds-text .ensures) ∙ ap not (c .if-not-holds-text .taken) in
+    record { change = bad-memory u m n (c .args .range) (c .args .inserted .now) bad; texts = changes-of-texts-are-texts; lines = earlier-lines-stay }
 
 pub returns-in-Break-check : need.returns-in-Break-check
 returns-in-Break-check g c =
@@ -33,7 +34,11 @@ returns-in-Break-check g c =
     let n = c .args .length in
     let sound = flipped (unsound m n) _ (c .holds-text .ensures) ∙ ap not (c .if-not-holds-text .left) in
     let p = err-from-errBy (c .from-residual .result) (c .from-residual .ensures .1) in
-    rw (p .1, p .2) (bad-text u m n (c .args .range) (c .args .inserted .now) sound _ (c .in-Break-check .ensures tt))
+    record {
+      change = rw (p .1, p .2) (bad-text u m n (c .args .range) (c .args .inserted .now) sound _ (c .in-Break-check .ensures tt));
+      texts = changes-of-texts-are-texts;
+      lines = earlier-lines-stay;
+    }
 
 pub returns-in-Break-span : need.returns-in-Break-span
 returns-in-Break-span g c =
@@ -42,7 +47,12 @@ returns-in-Break-span g c =
     let n = c .args .length in
     let sound = flipped (unsound m n) _ (c .holds-text .ensures) ∙ ap not (c .if-not-holds-text .left) in
     let p = err-from-errBy (c .from-residual-in-Break-span .result) (c .from-residual-in-Break-span .ensures .1) in
-    rw (p .1, p .2) (bad-range u m n (c .args .range) (c .args .inserted .now) sound (c .in-Continue-check .ensures tt) _ (c .in-Break-span .ensures tt ∙ ap (λ x. range-rule u x (c .args .range)) (whole n m)))
+    let rule = c .in-Break-span .ensures tt ∙ ap (λ x. range-rule u x (c .args .range)) (whole n m) in
+    record {
+      change = rw (p .1, p .2) (bad-range u m n (c .args .range) (c .args .inserted .now) sound (c .in-Continue-check .ensures tt) _ rule);
+      texts = changes-of-texts-are-texts;
+      lines = earlier-lines-stay;
+    }
 
 pub returns-in-Some : need.returns-in-Some
 returns-in-Some g c =
@@ -50,8 +60,14 @@ returns-in-Some g c =
     let m = c .args .memory .now in
     let n = c .args .length in
     let sound = flipped (unsound m n) _ (c .holds-text .ensures) ∙ ap not (c .if-not-holds-text .left) in
-    changed u m n (c .args .range) (c .args .inserted .now) sound (c .in-Continue-check .ensures tt)
-    (c .in-Continue-span .span .start .0) (c .in-Continue-span .span .end .0) (c .in-Continue-span .ensures tt ∙ ap (λ x. range-rule u x (c .args .range)) (whole n m)) (c .in-Some .size) (c .splice .last .list) (c .splice .kept .list ∙ length-take-le 8192 m (omega (arith, roomy m n sound))) (c .in-Some .ensures tt)
+    let rule = c .in-Continue-span .ensures tt ∙ ap (λ x. range-rule u x (c .args .range)) (whole n m) in
+    let long = c .splice .kept .list ∙ length-take-le 8192 m (omega (arith, roomy m n sound)) in
+    record {
+      change = changed u m n (c .args .range) (c .args .inserted .now) sound (c .in-Continue-check .ensures tt) (c .in-Continue-span .span .start .0) (c .in-Continue-span .span .end .0) rule
+          (c .in-Some .size) (c .splice .last .list) long (c .in-Some .ensures tt);
+      texts = changes-of-texts-are-texts;
+      lines = earlier-lines-stay;
+    }
 
 pub returns-in-None : need.returns-in-None
 returns-in-None g c =
@@ -59,5 +75,10 @@ returns-in-None g c =
     let m = c .args .memory .now in
     let n = c .args .length in
     let sound = flipped (unsound m n) _ (c .holds-text .ensures) ∙ ap not (c .if-not-holds-text .left) in
-    too-long u m n (c .args .range) (c .args .inserted .now) sound (c .in-Continue-check .ensures tt)
-    (c .in-Continue-span .span .start .0) (c .in-Continue-span .span .end .0) (c .in-Continue-span .ensures tt ∙ ap (λ x. range-rule u x (c .args .range)) (whole n m)) (c .splice .last .list) (c .in-None .ensures tt)
+    let rule = c .in-Continue-span .ensures tt ∙ ap (λ x. range-rule u x (c .args .range)) (whole n m) in
+    record {
+      change = too-long u m n (c .args .range) (c .args .inserted .now) sound (c .in-Continue-check .ensures tt) (c .in-Continue-span .span .start .0) (c .in-Continue-span .span .end .0) rule
+          (c .splice .last .list) (c .in-None .ensures tt);
+      texts = changes-of-texts-are-texts;
+      lines = earlier-lines-stay;
+    }
