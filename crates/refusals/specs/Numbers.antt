@@ -2,8 +2,25 @@
 use Prim.Native.Nat.{ℕ}
 use Rattle.refusals.specs.declared.Refusal.{Refusal}
 use Rattle.refusals.specs.declared.Refusal.the-variants.{
-  Memory, ListFull, NoFrame, Header, BodyLength, Body, LongText, IllFormed, DocumentState, Opening, Version,
-  NoLine, InsideCharacter, StartAfterEnd, ResultTooLong, Waiting, ListShape, TooManyTokens, Exhausted,
+  Memory,
+  ListFull,
+  NoFrame,
+  Header,
+  BodyLength,
+  Body,
+  LongText,
+  IllFormed,
+  DocumentState,
+  Opening,
+  Version,
+  NoLine,
+  InsideCharacter,
+  StartAfterEnd,
+  ResultTooLong,
+  Waiting,
+  ListShape,
+  TooManyTokens,
+  Exhausted,
 }
 
 abbrev pub numberOf : Refusal → ℕ

@@ -18,16 +18,23 @@ use Rattle.std.proofs.shelf.Tests.{and-parts, cases-lt, true≢false}
 use Rattle.std.proofs.shelf.Ways.{tells}
 use Rattle.text.specs.declared.places.Position.{Position}
 use Rattle.text.specs.declared.places.Range.{Range}
-use Rattle.text.specs.Characters.{firstChar, Begins}
+use Rattle.utf8.specs.Characters.{firstChar, Begins}
 use Rattle.text.specs.Lines.{isEnd, ends, startOf, content, contentOf, contentFrom}
 use Rattle.text.specs.Columns.{counted, wide, unitsOf, lineUnits, seek}
 use Rattle.text.specs.Positions.{or0, isNone, noLine, lineAt, inside, placeOf, cutColumn, typed}
 use Rattle.text.specs.Laws.{
-  Between, There, PlacesLieBetweenCharacters, PlacesCountTheirColumn, InsideMeansNoSuchColumn, total, UnitsAreOfCharacters, ChangesOfTextsAreTexts,
+  Between,
+  There,
+  PlacesLieBetweenCharacters,
+  PlacesCountTheirColumn,
+  InsideMeansNoSuchColumn,
+  total,
+  UnitsAreOfCharacters,
+  ChangesOfTextsAreTexts,
   EarlierLinesStay,
 }
-use Rattle.text.proofs.Chars.{no-char, begins-from, enc-one, enc-two, enc-three, enc-four}
-use Rattle.text.proofs.Firsts.{first-is}
+use Rattle.utf8.proofs.Chars.{no-char, begins-from, enc-one, enc-two, enc-three, enc-four}
+use Rattle.utf8.proofs.Firsts.{first-is}
 use Rattle.text.proofs.Starts.{starts, start-is, start-take, start-behind, same-front}
 use Rattle.text.proofs.Measuring.{seek-counts, seek-never, seek-boundary}
 
@@ -36,7 +43,6 @@ use Rattle.text.proofs.Measuring.{seek-counts, seek-never, seek-boundary}
 is-some : (o : Option ℕ) → isNone o ≡ false → o ≡ Some (or0 o)
 is-some None e = absurd (true≢false e)
 is-some (Some n) e = refl
-
 
 end-low : (b : ℕ) → isEnd b ≡ true → b < 128
 end-low b e = grind (arith, tells, e)

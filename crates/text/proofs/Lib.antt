@@ -1,7 +1,3 @@
-pub mod Chars
-pub mod Texts
-pub mod Syntax
-pub mod Firsts
 pub mod Counting
 pub mod Starts
 pub mod Walking

@@ -14,11 +14,11 @@ use Rattle.std.specs.declared.option.Option.the-variants.{None, Some}
 use Rattle.std.proofs.shelf.Text.{boundary-before-ascii}
 use Rattle.std.proofs.shelf.Tests.{cond-true, cond-false, cases-bool, eqb-true, eqb-false, ltb-true, ltb-false}
 use Rattle.std.proofs.shelf.Ways.{tells}
-use Rattle.text.specs.Characters.{firstChar, Begins, First}
+use Rattle.utf8.specs.Characters.{firstChar, Begins, First}
 use Rattle.text.specs.Lines.{isEnd, later, content}
 use Rattle.text.specs.Columns.{counted, wide, unitsOf, lineUnits, seek}
-use Rattle.text.proofs.Chars.{RangedAt, ranged}
-use Rattle.text.proofs.Firsts.{first-char-stands}
+use Rattle.utf8.proofs.Chars.{RangedAt, ranged}
+use Rattle.utf8.proofs.Firsts.{first-char-stands}
 
 -- what `seek` came to at the first byte: the place is here, or inside a character, or further on
 pub data Step (u : ℕ → ℕ) (b : ℕ) (t : List ℕ) (c : ℕ) : Option ℕ → Type 0 where

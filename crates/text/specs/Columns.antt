@@ -5,7 +5,7 @@ use Prim.Native.Nat.{ℕ, zero, suc, _+_, _-_}
 use lib.Dec.{eqb, ltb}
 use Rattle.std.specs.declared.option.Option.{Option}
 use Rattle.std.specs.declared.option.Option.the-variants.{None, Some}
-use Rattle.text.specs.Characters.{firstChar}
+use Rattle.utf8.specs.Characters.{firstChar}
 use Rattle.text.specs.Lines.{isEnd, later}
 
 abbrev pub counted : (ℕ → ℕ) → Option ℕ → ℕ

@@ -1,5 +1,3 @@
-pub mod Characters
-pub mod Grammar
 pub mod Lines
 pub mod Units
 pub mod Columns

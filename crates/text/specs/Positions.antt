@@ -10,7 +10,7 @@ use Rattle.refusals.specs.Outcomes.{Outcome, settle}
 use Rattle.lists.specs.Splices.{replaced}
 use Rattle.text.specs.declared.places.Position.{Position}
 use Rattle.text.specs.declared.places.Range.{Range}
-use Rattle.text.specs.Grammar.{wellFormed}
+use Rattle.utf8.specs.Grammar.{wellFormed}
 use Rattle.text.specs.Lines.{startOf}
 use Rattle.text.specs.Columns.{seek, lineUnits}
 

@@ -7,8 +7,8 @@ ghost use Rattle.text.specs.Positions.{check-rule, unsound, change-rule, leave
 use crate::encodings::PositionEncoding;
 use crate::places::Range;
 use crate::positions::places;
-use crate::utf8::well_formed;
 use refusals::Refusal;
+use utf8::well_formed;
 
 // The most bytes that a text has, and the memory that is lent to keep one.
 pub const TEXT_LIMIT: usize = 8192;
@@ -54,7 +54,13 @@ pub fn change<E: PositionEncoding>(
     }
     check(inserted)?;
     let span = places(encoding, &memory[0..length], range)?;
-    match lists::splice(&mut memory[0..TEXT_LIMIT], length, span.start.0, span.end.0, inserted) {
+    match lists::splice(
+        &mut memory[0..TEXT_LIMIT],
+        length,
+        span.start.0,
+        span.end.0,
+        inserted,
+    ) {
         Some(size) => Ok(size),
         None => Err(Refusal::ResultTooLong),
     }

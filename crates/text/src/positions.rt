@@ -15,8 +15,8 @@ use crate::places::Place;
 use crate::places::Position;
 use crate::places::Range;
 use crate::places::Span;
-use crate::utf8::scalar_at;
 use refusals::Refusal;
+use utf8::scalar_at;
 
 // The units of the character that begins at the place, 0 where none does.
 fn units_at<E: PositionEncoding>(encoding: &E, text: &[u8], at: usize) -> u32
@@ -111,11 +111,7 @@ pub fn cut<E: PositionEncoding>(
 }
 
 // The places of a range. Each number is tried over both positions before the next.
-pub fn places<E: PositionEncoding>(
-    encoding: &E,
-    text: &[u8],
-    range: Range,
-) -> Result<Span, Refusal>
+pub fn places<E: PositionEncoding>(encoding: &E, text: &[u8], range: Range) -> Result<Span, Refusal>
     ensures { λ r. ⌜ outcome (λ s. (s .start .0, s .end .0)) r tt ≡ range-rule (units (now (encoding .entry))) (now (text .entry)) range ⌝ }
 {
     let Some(first) = line_start(text, range.start.line) else {

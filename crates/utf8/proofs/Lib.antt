@@ -1,0 +1,4 @@
+pub mod Chars
+pub mod Texts
+pub mod Syntax
+pub mod Firsts
