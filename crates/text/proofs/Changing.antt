@@ -1,6 +1,6 @@
 -- A change, check by check, and what its splice leaves in the lent memory. Assumes nothing.
 use mathlib.Core.Path.{_≡_, refl, sym, ap, _∙_}
-use mathlib.Core.Bool.{Bool, true, false, cond, _||_}
+use mathlib.Core.Bool.{Bool, true, false, cond}
 use mathlib.Core.List.{List, [], _∷_, _++_}
 use mathlib.Core.Logic.{⊎-elim}
 use Prim.Native.Nat.{ℕ, _+_, _-_, _≤_, _<_}
@@ -10,16 +10,16 @@ use lib.ListN.{length, take, drop, length-drop}
 use Rattle.std.specs.declared.option.Option.{Option}
 use Rattle.std.specs.declared.option.Option.the-variants.{None, Some}
 use Rattle.std.proofs.shelf.Lists.{take-append-le, take-append-drop, take-take, length-take-le, drop-at}
-use Rattle.std.proofs.shelf.Tests.{cond-true, cond-false, cond-both, both-ways, or-parts, lt-ltb, le-ltb, ltb-true, ltb-false, cases-lt}
-use Rattle.refusals.specs.Outcomes.{Outcome, refused, taken, settle}
+use Rattle.std.proofs.shelf.Tests.{cond-true, cond-false, cond-both, both-ways, or-parts, lt-ltb, le-ltb, ltb-false, cases-lt}
+use Rattle.refusals.specs.Outcomes.{refused, taken, settle}
 use Rattle.refusals.proofs.Settles.{settle-on, settle-stop, settle-taken, settle-passes}
-use Rattle.lists.specs.Splices.{kept, holds, fits, replaced, splice-rule}
+use Rattle.lists.specs.Splices.{kept, holds, replaced, splice-rule}
 use Rattle.lists.proofs.Splicing.{held, stays, fits-from, fits-size, replaced-length}
 use Rattle.text.specs.declared.places.Position.{Position}
 use Rattle.text.specs.declared.places.Range.{Range}
 use Rattle.text.specs.Lines.{isEnd, later, startOf}
 use Rattle.text.specs.Columns.{wide, seek}
-use Rattle.text.specs.Positions.{limit, or0, lineAt, placeOf, typed, text-checks, range-checks, check-rule, range-rule, unsound, Changed, change-rule, leaves}
+use Rattle.text.specs.Positions.{limit, or0, placeOf, typed, text-checks, range-checks, check-rule, range-rule, unsound, Changed, change-rule, leaves}
 use Rattle.text.proofs.Starts.{starts, start-within}
 
 -- the place of a position lies in the text

@@ -1,32 +1,31 @@
 -- The laws of texts, proved. Assumes nothing.
 use mathlib.Core.Path.{_≡_, refl, sym, ap, subst, _∙_}
-use mathlib.Core.Bool.{Bool, true, false, cond}
+use mathlib.Core.Bool.{true, false}
 use mathlib.Core.List.{List, [], _∷_, _++_}
 use mathlib.Core.Logic.{_⊎_, inl, inr, ⊎-elim}
-use Prim.Native.Nat.{ℕ, zero, suc, _+_, _-_, _/_, _≤_, _<_, min}
+use Prim.Native.Nat.{ℕ, suc, _+_, _-_, _/_, _≤_, _<_}
 use native.Mathlib.Omega.{arith}
-use lib.ListN.{length, take, drop, length-append, length-drop}
+use lib.ListN.{length, take, drop, length-append}
 use lib.Utf8.{scalar, scalars, encode, encodes, next}
-use Rattle.std.specs.Text.{Utf8, width}
+use Rattle.std.specs.Text.{Utf8}
 use Rattle.std.specs.Words.{Boundary}
 use Rattle.std.specs.shelf.Text.{decodes}
 use Rattle.std.specs.declared.option.Option.{Option}
 use Rattle.std.specs.declared.option.Option.the-variants.{None, Some}
-use Rattle.std.proofs.shelf.Lists.{append-assoc, take-append-drop, take-take, length-take-le, drop-append-le}
+use Rattle.std.proofs.shelf.Lists.{append-assoc, take-append-drop, take-take, length-take-le}
 use Rattle.std.proofs.shelf.Text.{utf8-append, utf8-take, utf8-drop, boundary-start, boundary-after-ascii, boundary-from-rest, encodes-decodes, scalars-decodes}
 use Rattle.std.proofs.shelf.Tests.{and-parts, cases-lt, true≢false}
 use Rattle.std.proofs.shelf.Ways.{tells}
 use Rattle.text.specs.declared.places.Position.{Position}
-use Rattle.text.specs.declared.places.Range.{Range}
-use Rattle.utf8.specs.Characters.{firstChar, Begins}
-use Rattle.text.specs.Lines.{isEnd, ends, startOf, content, contentOf, contentFrom}
-use Rattle.text.specs.Columns.{counted, wide, unitsOf, lineUnits, seek}
-use Rattle.text.specs.Positions.{or0, isNone, noLine, lineAt, inside, placeOf, cutColumn, typed}
+use Rattle.text.specs.Lines.{isEnd, startOf, content, contentFrom}
+use Rattle.text.specs.Columns.{counted, wide, unitsOf, seek}
+use Rattle.text.specs.Positions.{or0, isNone, lineAt, inside, placeOf, cutColumn, typed}
 use Rattle.text.specs.Laws.{
   Between,
   There,
   PlacesLieBetweenCharacters,
   PlacesCountTheirColumn,
+  CutPositionsKeepTheirPlace,
   InsideMeansNoSuchColumn,
   total,
   UnitsAreOfCharacters,
@@ -36,7 +35,7 @@ use Rattle.text.specs.Laws.{
 use Rattle.utf8.proofs.Chars.{no-char, begins-from, enc-one, enc-two, enc-three, enc-four}
 use Rattle.utf8.proofs.Firsts.{first-is}
 use Rattle.text.proofs.Starts.{starts, start-is, start-take, start-behind, same-front}
-use Rattle.text.proofs.Measuring.{seek-counts, seek-never, seek-boundary}
+use Rattle.text.proofs.Measuring.{seek-counts, seek-never, seek-boundary, seek-cut}
 
 -- places
 
@@ -83,6 +82,12 @@ places-count-their-column u t p h =
     let m = or0 (seek u (lineAt t p) (p .character .0)) in
     let e : s + m - s ≡ m = omega arith in
     ap (unitsOf u (lineAt t p)) e ∙ seek-counts u (lineAt t p) (p .character .0) m (seek-is u t p h)
+
+pub cut-positions-keep-their-place : CutPositionsKeepTheirPlace
+unfolding inside placeOf cutColumn
+cut-positions-keep-their-place u t p =
+    let same = seek-cut u (lineAt t p) (p .character .0) in
+    (ap isNone same, ap (λ o. or0 (startOf t (p .line)) + or0 o) same)
 
 is-none : (o : Option ℕ) → isNone o ≡ true → o ≡ None
 is-none None e = refl

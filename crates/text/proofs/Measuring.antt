@@ -1,20 +1,19 @@
 -- How `seek` and the units counted go together. Assumes nothing.
 use mathlib.Core.Path.{_≡_, refl, sym, ap, subst, _∙_}
 use mathlib.Core.Bool.{Bool, true, false, cond}
-use mathlib.Core.List.{List, [], _∷_, _++_}
-use mathlib.Core.Logic.{_⊎_, inl, inr, ⊎-elim}
+use mathlib.Core.List.{List, [], _∷_}
+use mathlib.Core.Logic.{_⊎_, ⊎-elim}
 use Prim.Native.Nat.{ℕ, zero, suc, _+_, _-_, _≤_, _<_, min}
 use native.Mathlib.Omega.{arith}
 use lib.Dec.{eqb, ltb}
-use lib.ListN.{length, getD, take, drop}
-use lib.Utf8.{encode}
+use lib.ListN.{length}
 use Rattle.std.specs.Words.{Boundary}
 use Rattle.std.specs.declared.option.Option.{Option}
 use Rattle.std.specs.declared.option.Option.the-variants.{None, Some}
 use Rattle.std.proofs.shelf.Text.{boundary-before-ascii}
-use Rattle.std.proofs.shelf.Tests.{cond-true, cond-false, cases-bool, eqb-true, eqb-false, ltb-true, ltb-false}
+use Rattle.std.proofs.shelf.Tests.{cond-true, cond-false, eq-eqb, ne-eqb, eqb-true, eqb-false, le-ltb, ltb-true, ltb-false, cases-lt}
 use Rattle.std.proofs.shelf.Ways.{tells}
-use Rattle.utf8.specs.Characters.{firstChar, Begins, First}
+use Rattle.utf8.specs.Characters.{firstChar, First}
 use Rattle.text.specs.Lines.{isEnd, later, content}
 use Rattle.text.specs.Columns.{counted, wide, unitsOf, lineUnits, seek}
 use Rattle.utf8.proofs.Chars.{RangedAt, ranged}
@@ -141,3 +140,35 @@ module _ (u : ℕ → ℕ) where
   pub seek-boundary : (t : List ℕ) (c m : ℕ) → seek u t c ≡ Some m → Boundary t m
   seek-boundary [] c m e = let z : 0 ≡ m = cc in subst (Boundary []) z (omega arith, λ k. absurd (omega arith))
   seek-boundary (b ∷ t) c m e = boundary-step b t c m (seek u (b ∷ t) c) (λ d n q. seek-boundary t d n q) (step u b t c) e
+
+  -- the units past a line's content do not matter
+
+  abbrev inner : List ℕ → ℕ → ℕ → Option ℕ
+  inner t w c = cond (eqb w 0) (later (seek u t c)) (cond (eqb c 0) (Some 0) (cond (ltb c w) None (later (seek u t (c - w)))))
+
+  inner-deep : (t : List ℕ) (w c : ℕ) → 0 < w → w ≤ c → inner t w c ≡ later (seek u t (c - w))
+  inner-deep t w c p l = cond-false _ _ _ (ne-eqb w 0 (λ e. omega arith)) ∙ cond-false _ _ _ (ne-eqb c 0 (λ e. omega arith)) ∙ cond-false _ _ _ (le-ltb c w l)
+
+  inner-cut : (t : List ℕ) (w c n : ℕ) → ((d : ℕ) → seek u t (min d n) ≡ seek u t d) → inner t w (min c (w + n)) ≡ inner t w c
+  inner-cut t w c n h =
+      ⊎-elim
+      (λ none.
+      let e : min c (w + n) ≡ min c n = omega arith in
+      let z = eq-eqb w 0 (omega arith) in
+      cond-true _ _ _ z ∙ ap later (ap (seek u t) e ∙ h c) ∙ sym (cond-true _ _ _ z))
+      (λ some.
+      ⊎-elim
+      (λ lt.
+      let e : min c (w + n) - w ≡ min (c - w) n = omega arith in
+      inner-deep t w (min c (w + n)) (omega arith) (omega arith) ∙ ap later (ap (seek u t) e ∙ h (c - w)) ∙ sym (inner-deep t w c (omega arith) (omega arith)))
+      (λ ge. let e : min c (w + n) ≡ c = omega arith in ap (inner t w) e)
+      (cases-lt w c))
+      (cases-lt w 1)
+
+  pub seek-cut : (t : List ℕ) (c : ℕ) → seek u t (min c (lineUnits u t)) ≡ seek u t c
+  seek-cut [] c = refl
+  seek-cut (b ∷ t) c =
+      elim (isEnd b) as (λ v. cond v (Some 0) (inner t (wide u (b ∷ t)) (min c (cond v 0 (wide u (b ∷ t) + lineUnits u t)))) ≡ cond v (Some 0) (inner t (wide u (b ∷ t)) c)) [
+        | true ↦ refl
+        | false ↦ inner-cut t (wide u (b ∷ t)) c (lineUnits u t) (seek-cut t)
+      ]

@@ -1,6 +1,6 @@
 -- Where lines start, and what a text's first lines say of the whole. Assumes nothing.
 use mathlib.Core.Path.{_≡_, refl, sym, ap, subst, _∙_}
-use mathlib.Core.Bool.{Bool, true, false, cond, not, _&&_, _||_}
+use mathlib.Core.Bool.{true, false, cond, not, _&&_}
 use mathlib.Core.List.{List, [], _∷_, _++_}
 use mathlib.Core.Logic.{_⊎_, inl, inr, ⊎-elim}
 use Prim.Native.Nat.{ℕ, zero, suc, _+_, _-_, _≤_, _<_}
@@ -9,7 +9,7 @@ use lib.Dec.{eqb}
 use lib.ListN.{length, getD, take, drop}
 use Rattle.std.specs.declared.option.Option.{Option}
 use Rattle.std.specs.declared.option.Option.the-variants.{None, Some}
-use Rattle.std.proofs.shelf.Tests.{cond-true, cond-false, cases-bool, and-parts, or-cases, both-ways, cases-lt}
+use Rattle.std.proofs.shelf.Tests.{cond-true, cond-false, cases-bool, and-parts, or-cases}
 use Rattle.text.specs.Lines.{isEnd, ends, later, startOf, lineCount, content, CountedLinesAreThere}
 
 -- line k of a text starts at place n

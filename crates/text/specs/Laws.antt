@@ -10,7 +10,7 @@ use Rattle.text.specs.declared.places.Position.{Position}
 use Rattle.text.specs.declared.places.Range.{Range}
 use Rattle.text.specs.Lines.{startOf, content, contentOf}
 use Rattle.text.specs.Columns.{unitsOf}
-use Rattle.text.specs.Positions.{or0, noLine, lineAt, inside, placeOf, cutColumn, typed}
+use Rattle.text.specs.Positions.{or0, noLine, lineAt, inside, placeOf, cutColumn, cutPosition, typed}
 
 -- a place between characters: what stands before it and what stands behind it are texts
 pub record Between (t : List ℕ) (n : ℕ) : Type 0 where
@@ -30,6 +30,10 @@ PlacesLieBetweenCharacters = (u : ℕ → ℕ) (t : List ℕ) (p : Position) →
 -- the place of a position is as many units into its line as its character says, cut to the line's length
 abbrev pub PlacesCountTheirColumn : Type 0
 PlacesCountTheirColumn = (u : ℕ → ℕ) (t : List ℕ) (p : Position) → There u t p → unitsOf u (lineAt t p) (placeOf u t p - or0 (startOf t (p .line))) ≡ cutColumn u t p
+
+-- a position keeps its place where its character is cut to its line's length
+abbrev pub CutPositionsKeepTheirPlace : Type 0
+CutPositionsKeepTheirPlace = (u : ℕ → ℕ) (t : List ℕ) (p : Position) → (inside u t (cutPosition u t p) ≡ inside u t p) × (placeOf u t (cutPosition u t p) ≡ placeOf u t p)
 
 -- a position falls inside a character only where no place of its line has that many units before it
 abbrev pub InsideMeansNoSuchColumn : Type 0

@@ -50,6 +50,9 @@ module _ (u : ℕ → ℕ) where
   unfoldable pub cutColumn : List ℕ → Position → ℕ
   cutColumn t p = min (p .character .0) (lineUnits u (lineAt t p))
 
+  abbrev pub cutPosition : List ℕ → Position → Position
+  cutPosition t p = record { line = p .line; character = record { 0 = cutColumn t p } }
+
   abbrev pub cut-rule : List ℕ → Position → Outcome (Unit {0}) ℕ
   cut-rule t p = settle ((12, noLine t p) ∷ []) tt (cutColumn t p)
 

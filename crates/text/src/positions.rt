@@ -5,7 +5,7 @@ ghost use lib.ListN.{length, drop};
 ghost use Rattle.refusals.specs.Outcomes.{outcome};
 ghost use Rattle.text.specs.Lines.{placeIn, ahead};
 ghost use Rattle.text.specs.Columns.{wide, lineUnits, seek};
-ghost use Rattle.text.specs.Laws.{PlacesLieBetweenCharacters, PlacesCountTheirColumn, InsideMeansNoSuchColumn, UnitsAreOfCharacters};
+ghost use Rattle.text.specs.Laws.{PlacesLieBetweenCharacters, PlacesCountTheirColumn, InsideMeansNoSuchColumn, CutPositionsKeepTheirPlace, UnitsAreOfCharacters};
 ghost use Rattle.text.specs.Positions.{resolve-rule, cut-rule, range-rule};
 use crate::encodings::PositionEncoding;
 use crate::lines::is_line_end;
@@ -102,6 +102,7 @@ pub fn cut<E: PositionEncoding>(
     position: Position,
 ) -> Result<Column, Refusal>
     ensures column { λ r. ⌜ outcome (λ k. k .0) r tt ≡ cut-rule (units (now (encoding .entry))) (now (text .entry)) position ⌝ }
+    ensures place { λ _. ⌜ CutPositionsKeepTheirPlace ⌝ }
     ensures characters { λ _. ⌜ UnitsAreOfCharacters ⌝ }
 {
     let Some(start) = line_start(text, position.line) else {

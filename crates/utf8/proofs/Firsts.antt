@@ -1,13 +1,13 @@
 -- The character that begins a list of bytes, by its definition and by what it means. Assumes nothing.
 use mathlib.Core.Path.{_≡_, refl, sym, ap, subst, _∙_}
-use mathlib.Core.Bool.{Bool, true, false, cond, _&&_}
+use mathlib.Core.Bool.{true, false, _&&_}
 use mathlib.Core.Logic.{⊎-elim}
 use mathlib.Core.List.{List, [], _∷_, _++_}
-use Prim.Native.Nat.{ℕ, _+_, _≤_, _<_}
+use Prim.Native.Nat.{ℕ, _+_, _≤_}
 use native.Mathlib.Omega.{arith}
 use lib.Dec.{eqb}
 use lib.ListN.{length, drop, length-append, length-drop}
-use lib.Utf8.{scalar, encode, encodes}
+use lib.Utf8.{scalar, encode}
 use Rattle.std.specs.Text.{width}
 use Rattle.std.specs.shelf.Text.{decodes}
 use Rattle.std.specs.Numbers.{Checked}
@@ -16,7 +16,7 @@ use Rattle.std.specs.declared.option.Option.the-variants.{None, Some}
 use Rattle.std.proofs.shelf.Lists.{append-nil}
 use Rattle.std.proofs.shelf.Text.{length-encode, width-bounds, encode-same, utf8-encode, decodes-append, decodes-encodes}
 use Rattle.std.proofs.shelf.Tests.{and-parts, and-from, eqb-true, eq-eqb, cases-bool, cond-true, cond-false, both-ways, false≢true}
-use Rattle.utf8.specs.Characters.{beginsWith, heads, firstChar, NoChar, Begins, First, FirstCharStands}
+use Rattle.utf8.specs.Characters.{beginsWith, heads, firstChar, Begins, First, FirstCharStands}
 use Rattle.utf8.proofs.Chars.{begins-from}
 
 -- a list that begins with another is it and a rest

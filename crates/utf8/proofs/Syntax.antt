@@ -1,12 +1,12 @@
 -- The grammar, and the test, say the same as `Utf8`. Assumes nothing.
-use mathlib.Core.Path.{_≡_, refl, sym, ap, subst, _∙_}
-use mathlib.Core.Bool.{Bool, true, false, _&&_}
+use mathlib.Core.Path.{_≡_, refl, sym, subst}
+use mathlib.Core.Bool.{true, false}
 use mathlib.Core.Logic.{_⊎_, inl, inr, ⊎-elim}
 use mathlib.Core.List.{List, [], _∷_, _++_}
 use Prim.Native.Nat.{ℕ, _+_, _-_, _*_, _/_, _≤_, _<_}
 use native.Mathlib.Omega.{arith}
 use lib.Dec.{eqb}
-use lib.ListN.{length, getD, drop}
+use lib.ListN.{drop}
 use lib.Utf8.{scalar, scalars, encode, encodes, next, scalar-cases}
 use Rattle.std.specs.Text.{Utf8, width}
 use Rattle.std.specs.shelf.Text.{decodes, sameBytes}
@@ -14,10 +14,9 @@ use Rattle.std.proofs.shelf.Text.{utf8-append, utf8-encode, utf8-nil, encodes-d
 use Rattle.std.proofs.shelf.Tests.{and-parts, and-from, eqb-true, eq-eqb, cases-lt, false≢true}
 use Rattle.std.proofs.shelf.Ways.{tells}
 use Rattle.std.proofs.shelf.Tests.{cases-eq}
-use Rattle.utf8.specs.Characters.{Second, Begins}
-use Rattle.utf8.specs.Grammar.{Tail, Octets, none, one, two, three, four, wellFormed, TableIsUtf8, TestDecidesUtf8}
+use Rattle.utf8.specs.Characters.{Begins}
+use Rattle.utf8.specs.Grammar.{Octets, none, one, two, three, four, wellFormed, TableIsUtf8, TestDecidesUtf8}
 use Rattle.utf8.proofs.Chars.{begins-one, begins-two, begins-three, begins-four, RangedAt, ranged, enc-one, enc-two, enc-three, enc-four}
-use Rattle.utf8.proofs.Texts.{text-back}
 
 same-from : (xs ys : List ℕ) → sameBytes xs ys ≡ true → xs ≡ ys
 same-from [] [] e = refl

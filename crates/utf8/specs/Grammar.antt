@@ -1,5 +1,4 @@
 -- The syntax of UTF-8 as RFC 3629 gives it, byte by byte, and the test for it. Assumes nothing.
-use mathlib.Core.Path.{_≡_}
 use mathlib.Core.Bool.{Bool, _&&_}
 use mathlib.Core.List.{List, [], _∷_}
 use Prim.Native.Nat.{ℕ, _≤_, _<_}

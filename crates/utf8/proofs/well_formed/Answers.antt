@@ -1,12 +1,11 @@
-use mathlib.Core.Path.{refl, sym, subst}
+use mathlib.Core.Path.{sym}
 use mathlib.Core.Bool.{false}
 use Rattle.std.proofs.shelf.Ways.{same-from-decides}
 use Rattle.utf8.specs.Grammar.{wellFormed}
 use Rattle.utf8.proofs.Syntax.{test-decides-utf8, table-is-utf8}
-use Prim.Native.Nat.{ℕ, _+_, _≤_}
+use Prim.Native.Nat.{_+_}
 use native.Mathlib.Omega.{arith}
-use lib.ListN.{length, drop, length-drop}
-use Rattle.std.specs.Text.{Utf8}
+use lib.ListN.{drop, length-drop}
 use Rattle.std.proofs.shelf.Tests.{false≢true}
 use Rattle.utf8.specs.Characters.{Begins}
 use Rattle.utf8.proofs.Texts.{not-text, text-past, text-back, text-end}

@@ -6,7 +6,6 @@ use native.Mathlib.Omega.{arith}
 use lib.ListN.{length, take}
 use Rattle.std.proofs.shelf.Lists.{length-take-le}
 use Rattle.std.proofs.shelf.Results.{err-from-errBy}
-use Rattle.refusals.specs.Numbers.{numberOf}
 use Rattle.text.specs.Positions.{unsound, range-rule}
 use Rattle.text.proofs.Changing.{bad-memory, bad-text, bad-range, changed, too-long, roomy}
 use Rattle.text.proofs.Lawful.{changes-of-texts-are-texts, earlier-lines-stay}

@@ -1,6 +1,3 @@
-use mathlib.Core.Path.{_≡_}
-use mathlib.Core.Bool.{cond}
-use Prim.Native.Nat.{ℕ, _+_}
 use native.Mathlib.Omega.{arith}
 use Rattle.text.proofs.Counting.{count-more, count-all}
 use Rattle.text.proofs.Starts.{counted-lines-are-there}
