@@ -30,3 +30,12 @@ splice-rule slice n start end new =
     cond (fits (length slice) n start end (length new))
     (holds (start + length new + (n - end)) (replaced (take n slice) start end new))
     (kept slice)
+
+-- what a copy leaves: the whole slice, with how many entries were written if they fitted
+abbrev pub copied : {A : Type 0} → Option ℕ → List A → Ended A
+copied None slice = kept slice
+copied (Some n) slice = holds n slice
+
+-- the entries of from over the front of a slice
+abbrev pub copy-rule : {A : Type 0} → List A → List A → Ended A
+copy-rule slice from = cond (leb (length from) (length slice)) (holds (length from) (from ++ drop (length from) slice)) (kept slice)

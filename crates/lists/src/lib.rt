@@ -1,6 +1,8 @@
 // Lists in slices that the caller lends: the first entries of the slice, up to a stated length.
 ghost use mathlib.Core.Path.{_≡_};
-ghost use Rattle.lists.specs.Splices.{ended, splice-rule};
+ghost use Rattle.lists.specs.Splices.{ended, splice-rule, copied, copy-rule};
+
+pub mod growing;
 
 // Replaces the entries from `start` up to `end` of the `length` entries in `list` by `inserted`, and answers the
 // new length. The tail is moved once. None, with every entry as it was, where the places are out of order or the
@@ -26,4 +28,17 @@ pub fn splice<T: Copy>(
     list.copy_within(end..length, middle);
     list[start..middle].copy_from_slice(inserted);
     Some(middle + (length - end))
+}
+
+// Writes all of `from` over the front of `list`, and answers how many entries that are. None, with every entry as it
+// was, where they do not fit.
+pub fn copy<T: Copy>(list: &mut [T], from: &[T]) -> Option<usize>
+    ensures { λ r. ⌜ copied r (now (list .exit)) ≡ copy-rule (now (list .entry)) (now (from .entry)) ⌝ }
+{
+    let count = from.len();
+    if count > list.len() {
+        return None;
+    }
+    list[0..count].copy_from_slice(from);
+    Some(count)
 }

@@ -10,7 +10,7 @@ use lib.ListN.{length, take, drop, length-drop}
 use Rattle.std.specs.declared.option.Option.{Option}
 use Rattle.std.specs.declared.option.Option.the-variants.{None, Some}
 use Rattle.std.proofs.shelf.Lists.{take-append-le, take-append-drop, take-take, length-take-le, drop-at}
-use Rattle.std.proofs.shelf.Tests.{cond-true, cond-false, cond-both, both-ways, or-parts, lt-ltb, le-ltb, ltb-false, cases-lt}
+use Rattle.std.proofs.shelf.Tests.{cond-true, cond-false, cond-both, both-ways, or-parts, lt-ltb, le-ltb, ltb-false, cases-lt, not-false}
 use Rattle.refusals.specs.Outcomes.{refused, taken, settle}
 use Rattle.refusals.proofs.Settles.{settle-on, settle-stop, settle-taken, settle-passes}
 use Rattle.lists.specs.Splices.{kept, holds, replaced, splice-rule}
@@ -19,7 +19,8 @@ use Rattle.text.specs.declared.places.Position.{Position}
 use Rattle.text.specs.declared.places.Range.{Range}
 use Rattle.text.specs.Lines.{isEnd, later, startOf}
 use Rattle.text.specs.Columns.{wide, seek}
-use Rattle.text.specs.Positions.{limit, or0, placeOf, typed, text-checks, range-checks, check-rule, range-rule, unsound, Changed, change-rule, leaves}
+use Rattle.text.specs.Positions.{IsText, limit, or0, placeOf, typed, text-checks, range-checks, check-rule, range-rule, unsound, Changed, change-rule, leaves}
+use Rattle.utf8.proofs.Syntax.{test-decides-utf8}
 use Rattle.text.proofs.Starts.{starts, start-within}
 
 -- the place of a position lies in the text
@@ -75,6 +76,12 @@ module _ (u : ℕ → ℕ) (t : List ℕ) (r : Range) (a b : ℕ) (is : taken (a
   pub typed-is : (new : List ℕ) → typed u t r new ≡ replaced t a b new
   unfolding typed
   typed-is new = sym (λ k. replaced t (at-start k) (at-end k) new)
+
+-- what passes the checks of a text is one
+pub checked-text : (t : List ℕ) → taken tt ≡ check-rule t → IsText t
+checked-text t e =
+    let ok = settle-passes (tt {0}) (tt {0}) (text-checks t) tt (sym e) in
+    record { whole = test-decides-utf8 t .0 (not-false _ (ok .1 .0)); short = ltb-false _ _ (ok .0) }
 
 pub roomy : (m : List ℕ) (n : ℕ) → unsound m n ≡ false → (limit ≤ length m) × (n ≤ limit)
 roomy m n sound =

@@ -1,9 +1,10 @@
 -- The place of a position, and the text that a change makes. Assumes nothing.
 use mathlib.Core.Bool.{Bool, true, false, not, _||_}
 use mathlib.Core.List.{List, [], _∷_, _++_}
-use Prim.Native.Nat.{ℕ, _+_, min}
+use Prim.Native.Nat.{ℕ, _+_, _≤_, min}
 use lib.Dec.{ltb}
 use lib.ListN.{length, take, drop}
+use Rattle.std.specs.Text.{Utf8}
 use Rattle.std.specs.declared.option.Option.{Option}
 use Rattle.std.specs.declared.option.Option.the-variants.{None, Some}
 use Rattle.refusals.specs.Outcomes.{Outcome, settle}
@@ -69,6 +70,11 @@ module _ (u : ℕ → ℕ) where
   -- the text with a range of it replaced by another text
   unfoldable pub typed : List ℕ → Range → List ℕ → List ℕ
   typed t r new = replaced t (placeOf t (r .start)) (placeOf t (r .end)) new
+
+-- a text: well-formed UTF-8 of at most 8,192 bytes
+pub record IsText (t : List ℕ) : Type 0 where
+  pub whole : Utf8 t
+  pub short : length t ≤ limit
 
 -- what is checked of a text that a call brings
 abbrev pub text-checks : List ℕ → List (ℕ × Bool)

@@ -1,0 +1,3 @@
+mod Steps
+mod Bodies
+mod Back

@@ -1,0 +1,4 @@
+pub mod Encodings
+pub mod Numbers
+pub mod ScriptLines
+pub mod Texts
