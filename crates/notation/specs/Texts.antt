@@ -10,6 +10,7 @@ use Rattle.std.specs.Of.Vec.{vec-items}
 use Rattle.std.specs.declared.option.Option.{Option}
 use Rattle.std.specs.declared.option.Option.the-variants.{Some, None}
 use Rattle.notation.specs.declared.quoted.Quoted.{Quoted}
+use Rattle.notation.specs.Numbers.{then}
 
 -- the value of a hexadecimal digit of either case
 abbrev pub hexValue : ℕ → Option ℕ
@@ -70,6 +71,14 @@ textOf (b ∷ bs) = cond (eqb b 34) (bodyOf 0 bs) None
 -- what was read, as lists
 abbrev pub meant : Option Quoted → Option (List ℕ × List ℕ)
 meant o = mapped (λ q. (vec-items (q .bytes), q .rest .now)) o
+
+-- the bytes of a TEXT that nothing follows
+abbrev pub alone : List ℕ × List ℕ → Option (List ℕ)
+alone (bs, []) = Some bs
+alone (bs, (b ∷ rest)) = None
+
+abbrev pub lastText : List ℕ → Option (List ℕ)
+lastText bs = then (textOf bs) alone
 
 -- the capital hexadecimal digit of a number below 16
 abbrev pub hexDigit : ℕ → ℕ

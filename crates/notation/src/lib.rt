@@ -17,5 +17,6 @@ pub use number::read_mark;
 pub use number::read_number;
 pub use number::read_pair;
 pub use quoted::Quoted;
+pub use quoted::read_last_text;
 pub use quoted::read_text;
 pub use writing::write_text;

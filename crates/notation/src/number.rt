@@ -1,4 +1,4 @@
-// A number: decimal digits, with no sign.
+// Numbers: decimal digits, with no sign. And the marks between fields.
 ghost use mathlib.Core.Path.{_≡_};
 ghost use Rattle.std.specs.Options.{mapped};
 ghost use Rattle.notation.specs.Numbers.{numberOf, behind, pairOf};

@@ -1,10 +1,12 @@
-// A TEXT: any bytes, between double quotes.
+// A TEXT: any bytes, between double quotes. Printable ASCII but the quote and the backslash stands for itself, and so
+// do bytes from 0x80 on; `\n`, `\r`, `\t`, `\"`, `\\` and `\xHH`, with hexadecimal digits of either case, stand for any.
 ghost use mathlib.Core.Path.{_≡_};
 ghost use Prim.Native.Nat.{_≤_, _<_};
 ghost use lib.ListN.{length};
+ghost use Rattle.std.specs.Of.Vec.{vec-items};
 ghost use Rattle.std.specs.Options.{Cases, mapped};
 ghost use Rattle.std.specs.Vec.{made};
-ghost use Rattle.notation.specs.Texts.{hexValue, named, stands, spellingOf, textOf, meant};
+ghost use Rattle.notation.specs.Texts.{hexValue, named, stands, spellingOf, textOf, meant, lastText};
 use std::alloc::AllocError;
 use std::alloc::Global;
 
@@ -94,4 +96,14 @@ pub fn read_text(heap: Global, from: &[u8]) -> Result<Option<Quoted<'_>>, AllocE
         bytes,
         rest: &from[at + 1..],
     }))
+}
+
+// The bytes of the TEXT that `from` is: it stands at the front, and nothing follows it.
+pub fn read_last_text(heap: Global, from: &[u8]) -> Result<Option<Vec<u8>>, AllocError>
+    ensures { λ r. ⌜ made r (λ t. mapped vec-items t ≡ lastText (now (from .entry))) ⌝ }
+{
+    match read_text(heap, from)? {
+        Some(quoted) if quoted.rest.is_empty() => Ok(Some(quoted.bytes)),
+        _ => Ok(None),
+    }
 }

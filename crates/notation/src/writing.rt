@@ -1,4 +1,5 @@
-// Writes bytes as TEXT.
+// Writes bytes as TEXT: printable ASCII as itself, LF, CR, tab, quote and backslash by their letters, any other byte by
+// capital hexadecimal digits.
 ghost use mathlib.Core.Path.{_≡_};
 ghost use mathlib.Core.List.{List, _++_};
 ghost use Prim.Native.Nat.{ℕ, _<_};

@@ -10,7 +10,7 @@ use Rattle.std.specs.declared.option.Option.{Option}
 use Rattle.std.specs.declared.option.Option.the-variants.{None, Some}
 use Rattle.std.proofs.shelf.Lists.{at-drop-more, at-drop-all}
 use Rattle.std.proofs.shelf.Tests.{cond-true, cond-false}
-use Rattle.text.specs.Lines.{isEnd, ends, later, ahead, startOf, lineCount, content}
+use Rattle.text.specs.Lines.{isEnd, ends, endsAt, later, ahead, startOf, lineCount, content}
 
 pub ahead-later : (n : ℕ) (o : Option ℕ) → ahead n (later o) ≡ ahead (n + 1) o
 ahead-later n None = refl
@@ -28,11 +28,18 @@ and-true true = refl
 and-true false = refl
 
 -- the byte behind decides; past the end stands no LF
-pub ends-at : (b : ℕ) (t : List ℕ) (n : ℕ) → ends b (drop n t) ≡ (eqb b 10 || (eqb b 13 && not (eqb (getD t n 0) 10)))
+ends-at : (b : ℕ) (t : List ℕ) (n : ℕ) → ends b (drop n t) ≡ (eqb b 10 || (eqb b 13 && not (eqb (getD t n 0) 10)))
 ends-at b [] zero = ap (λ x. eqb b 10 || x) (sym (and-true (eqb b 13)))
 ends-at b [] (suc n) = ap (λ x. eqb b 10 || x) (sym (and-true (eqb b 13)))
 ends-at b (c ∷ t) zero = refl
 ends-at b (c ∷ t) (suc n) = ends-at b t n
+
+pub ends-here : (t : List ℕ) (n : ℕ) → n < length t → endsAt (drop n t) ≡ ends (getD t n 0) (drop (n + 1) t)
+ends-here t n l = at-drop-more endsAt t n 0 l
+
+-- the same by the two bytes
+pub ends-by : (t : List ℕ) (n : ℕ) → n < length t → endsAt (drop n t) ≡ (eqb (getD t n 0) 10 || (eqb (getD t n 0) 13 && not (eqb (getD t (n + 1) 0) 10)))
+ends-by t n l = ends-here t n l ∙ ends-at (getD t n 0) t (n + 1)
 
 start-step : (b : ℕ) (t : List ℕ) (n : ℕ) → 0 < n → startOf (b ∷ t) n ≡ later (startOf t (cond (ends b t) (n - 1) n))
 start-step b t zero l = absurd (omega arith)

@@ -1,6 +1,6 @@
 -- Lines of a text, defined on every list of bytes. Assumes nothing.
 use mathlib.Core.Path.{_≡_}
-use mathlib.Core.Bool.{Bool, cond, not, _&&_, _||_}
+use mathlib.Core.Bool.{Bool, false, cond, not, _&&_, _||_}
 use mathlib.Core.List.{List, [], _∷_}
 use Prim.Native.Nat.{ℕ, zero, suc, _+_, _<_}
 use denote.Ref.{RefT}
@@ -18,6 +18,11 @@ isEnd b = eqb b 10 || eqb b 13
 abbrev pub ends : ℕ → List ℕ → Bool
 ends b [] = isEnd b
 ends b (c ∷ t) = eqb b 10 || (eqb b 13 && not (eqb c 10))
+
+-- a line ends right after the first byte
+abbrev pub endsAt : List ℕ → Bool
+endsAt [] = false
+endsAt (b ∷ t) = ends b t
 
 -- one byte further on
 abbrev pub later : Option ℕ → Option ℕ

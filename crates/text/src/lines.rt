@@ -1,8 +1,8 @@
 // Lines: LF, CR LF as one end, CR.
 ghost use mathlib.Core.Path.{_≡_};
-ghost use Prim.Native.Nat.{_+_, _<_, _≤_};
-ghost use lib.ListN.{length, getD, drop};
-ghost use Rattle.text.specs.Lines.{isEnd, ends, startOf, lineCount, content, contentOf, placeIn, bytesIn, CountedLinesAreThere};
+ghost use Prim.Native.Nat.{_+_, _≤_};
+ghost use lib.ListN.{length, drop};
+ghost use Rattle.text.specs.Lines.{isEnd, endsAt, startOf, lineCount, content, contentOf, placeIn, bytesIn, CountedLinesAreThere};
 use crate::places::Place;
 
 // Whether the byte is part of a line end.
@@ -12,11 +12,13 @@ pub(crate) fn is_line_end(b: u8) -> bool
     b == b'\n' || b == b'\r'
 }
 
-// Whether a line ends right after the byte at the place: LF, or CR with no LF behind it.
-fn ends_line(text: &[u8], at: usize) -> bool
-    requires { ⌜ at < length (now text) ⌝ }
-    ensures { λ r. ⌜ r ≡ ends (getD (now (text .entry)) at 0) (drop (at + 1) (now (text .entry))) ⌝ }
+// Whether a line ends right after the byte at the place: LF, or CR with no LF behind it. Past the text none does.
+pub fn ends_line(text: &[u8], at: usize) -> bool
+    ensures { λ r. ⌜ r ≡ endsAt (drop at (now (text .entry))) ⌝ }
 {
+    if at >= text.len() {
+        return false;
+    }
     match text[at] {
         b'\n' => true,
         b'\r' => at + 1 == text.len() || text[at + 1] != b'\n',

@@ -19,7 +19,7 @@ use refusals::Refusal;
 use utf8::scalar_at;
 
 // The units of the character that begins at the place, 0 where none does.
-fn units_at<E: PositionEncoding>(encoding: &E, text: &[u8], at: usize) -> u32
+pub fn units_at<E: PositionEncoding>(encoding: &E, text: &[u8], at: usize) -> u32
     ensures { λ r. ⌜ r ≡ wide (units (now (encoding .entry))) (drop at (now (text .entry))) ⌝ }
 {
     match scalar_at(text, at) {

@@ -14,7 +14,7 @@ use Rattle.std.proofs.shelf.Tests.{ltb-false, or-parts}
 use Rattle.refusals.specs.Outcomes.{refused, taken, settle, outcome}
 use Rattle.refusals.specs.declared.Refusal.{Refusal}
 use Rattle.text.specs.declared.places.Range.{Range}
-use Rattle.text.specs.Grammar.{wellFormed}
+use Rattle.utf8.specs.Grammar.{wellFormed}
 use Rattle.text.specs.Positions.{Changed, change-rule, change-checks, leaves, limit, typed}
 
 -- what is taken passed every check

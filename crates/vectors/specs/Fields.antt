@@ -1,29 +1,19 @@
 -- The fields of a case, and the answer of a call. Assumes nothing.
-use mathlib.Core.List.{List, [], _∷_, _++_}
+use mathlib.Core.List.{List, _++_}
 use Prim.Native.Nat.{ℕ}
 use lib.Chars.{codes}
 use Rattle.std.specs.Options.{mapped}
 use Rattle.std.specs.Written.{decimal}
 use Rattle.std.specs.declared.option.Option.{Option}
-use Rattle.std.specs.declared.option.Option.the-variants.{Some, None}
 use Rattle.std.specs.declared.result.Result.{Result}
 use Rattle.std.specs.declared.result.Result.the-variants.{Ok, Err}
 use Rattle.notation.specs.Numbers.{behind, pairOf, then}
-use Rattle.notation.specs.Texts.{textOf}
 use Rattle.refusals.specs.Numbers.{numberOf}
 use Rattle.refusals.specs.declared.Refusal.{Refusal}
 
 -- a position and a space, and what follows
 abbrev pub positionField : List ℕ → Option (ℕ × ℕ × List ℕ)
 positionField bs = then (pairOf bs) (λ p. mapped (λ rest. (p .0, p .1, rest)) (behind 32 (p .2)))
-
--- the bytes of a text that nothing follows
-abbrev pub alone : List ℕ × List ℕ → Option (List ℕ)
-alone (bs, []) = Some bs
-alone (bs, (b ∷ rest)) = None
-
-abbrev pub lastText : List ℕ → Option (List ℕ)
-lastText bs = then (textOf bs) alone
 
 abbrev pub settledText : Result ℕ Refusal → List ℕ
 settledText (Ok n) = codes "0 " ++ decimal n

@@ -8,25 +8,24 @@ ghost use Rattle.std.specs.Vec.{made};
 ghost use Rattle.std.specs.Written.{decimal};
 ghost use Rattle.refusals.specs.Numbers.{numberOf};
 ghost use Rattle.vectors.specs.Fields.{settledText};
-use crate::fields::last_text;
 use crate::fields::last_texts;
 use crate::fields::order_fields;
 use crate::fields::spot_fields;
 use crate::texts::change;
 use crate::texts::cut;
 use crate::texts::resolve;
+use notation::read_last_text;
 use notation::write_text;
 use refusals::Refusal;
 use std::alloc::AllocError;
 use std::alloc::Global;
-use std::fmt::Write;
 use text::lines::line_content;
 use text::lines::line_count;
 use text::lines::line_start;
-use text::utf8::well_formed;
+use utf8::well_formed;
 
 fn answer_utf8(heap: Global, fields: &[u8]) -> Result<Option<String>, AllocError> {
-    let Some(text) = last_text(heap, fields)? else {
+    let Some(text) = read_last_text(heap, fields)? else {
         return Ok(None);
     };
     let word = if well_formed(text.as_slice()) {
@@ -38,12 +37,13 @@ fn answer_utf8(heap: Global, fields: &[u8]) -> Result<Option<String>, AllocError
 }
 
 fn answer_lines(heap: Global, fields: &[u8]) -> Result<Option<String>, AllocError> {
-    let Some(bytes) = last_text(heap, fields)? else {
+    let Some(bytes) = read_last_text(heap, fields)? else {
         return Ok(None);
     };
     let text = bytes.as_slice();
     let count = line_count(text);
     let mut answer = format!(heap, "{count}")?;
+    // up to the first line that is not there
     for line in 0..u32::MAX {
         let (Some(start), Some(content)) = (line_start(text, line), line_content(text, line)) else {
             break;
@@ -72,7 +72,7 @@ fn answer_place(heap: Global, fields: &[u8]) -> Result<Option<String>, AllocErro
     let Some(spot) = spot_fields(fields) else {
         return Ok(None);
     };
-    let Some(text) = last_text(heap, spot.rest)? else {
+    let Some(text) = read_last_text(heap, spot.rest)? else {
         return Ok(None);
     };
     let outcome = match resolve(spot.encoding, text.as_slice(), spot.position) {
@@ -86,7 +86,7 @@ fn answer_cut(heap: Global, fields: &[u8]) -> Result<Option<String>, AllocError>
     let Some(spot) = spot_fields(fields) else {
         return Ok(None);
     };
-    let Some(text) = last_text(heap, spot.rest)? else {
+    let Some(text) = read_last_text(heap, spot.rest)? else {
         return Ok(None);
     };
     let outcome = match cut(spot.encoding, text.as_slice(), spot.position) {

@@ -1,11 +1,10 @@
 // The fields of a case.
 ghost use mathlib.Core.Path.{_≡_};
-ghost use Rattle.std.specs.Of.Vec.{vec-items};
 ghost use Rattle.std.specs.Options.{mapped};
-ghost use Rattle.std.specs.Vec.{made};
-ghost use Rattle.vectors.specs.Fields.{positionField, lastText};
+ghost use Rattle.vectors.specs.Fields.{positionField};
 use notation::Encoding;
 use notation::read_encoding;
+use notation::read_last_text;
 use notation::read_mark;
 use notation::read_number;
 use notation::read_pair;
@@ -90,16 +89,6 @@ pub fn order_fields(from: &[u8]) -> Option<Order<'_>> {
     })
 }
 
-// A text that is the last field.
-pub fn last_text(heap: Global, from: &[u8]) -> Result<Option<Vec<u8>>, AllocError>
-    ensures { λ r. ⌜ made r (λ t. mapped vec-items t ≡ lastText (now (from .entry))) ⌝ }
-{
-    match read_text(heap, from)? {
-        Some(quoted) if quoted.rest.is_empty() => Ok(Some(quoted.bytes)),
-        _ => Ok(None),
-    }
-}
-
 // Two texts that are the last fields.
 pub fn last_texts(heap: Global, from: &[u8]) -> Result<Option<Both>, AllocError> {
     let Some(quoted) = read_text(heap, from)? else {
@@ -108,7 +97,7 @@ pub fn last_texts(heap: Global, from: &[u8]) -> Result<Option<Both>, AllocError>
     let Some(rest) = read_mark(quoted.rest, b' ') else {
         return Ok(None);
     };
-    let Some(new) = last_text(heap, rest)? else {
+    let Some(new) = read_last_text(heap, rest)? else {
         return Ok(None);
     };
     Ok(Some(Both {

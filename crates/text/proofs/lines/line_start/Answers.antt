@@ -4,7 +4,7 @@ use Prim.Native.Nat.{ℕ, _+_, _-_}
 use native.Mathlib.Omega.{arith}
 use lib.ListN.{drop}
 use Rattle.text.specs.Lines.{ahead, startOf}
-use Rattle.text.proofs.Counting.{ahead-none, ahead-here, start-more, start-none}
+use Rattle.text.proofs.Counting.{ahead-none, ahead-here, ends-here, start-more, start-none}
 use Rattle.text.proofs.lines.line_start.Needs as need
 use Rattle.text.proofs.lines.line_start.Needs.{then-ends-line, else-ends-line}
 
@@ -27,7 +27,7 @@ loop-left-again c =
       | else-ends-line w ↦ grind (arith, w .left-is, w .if-ends-line .left)
     ] in
     let step : ahead (at + 1) (startOf (drop (at + 1) t) (c .if-ends-line .left)) ≡ ahead at (startOf (drop at t) n) =
-    ap (λ (m : ℕ). ahead (at + 1) (startOf (drop (at + 1) t) m)) (left ∙ ap (λ b. cond b (n - 1) n) (c .ends-line .ensures)) ∙ sym (start-more t at n (omega arith) (omega arith)) in
+    ap (λ (m : ℕ). ahead (at + 1) (startOf (drop (at + 1) t) m)) (left ∙ ap (λ b. cond b (n - 1) n) (c .ends-line .ensures ∙ ends-here t at (omega arith))) ∙ sym (start-more t at n (omega arith) (omega arith)) in
     (omega arith, step ∙ c .loop-left .inv .1)
 
 pub returns : need.returns

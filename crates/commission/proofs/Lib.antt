@@ -1,0 +1,4 @@
+mod Settled
+mod Sizes
+mod Views
+mod Typing
