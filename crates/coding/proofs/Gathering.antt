@@ -1,21 +1,21 @@
 -- One token more at the end of a coding. Assumes nothing.
-use mathlib.Core.Path.{_≡_, refl, sym, ap, _∙_}
+use mathlib.Core.Path.{_≡_, refl, ap, _∙_}
 use mathlib.Core.Bool.{cond}
 use mathlib.Core.List.{List, [], _∷_, _++_, map}
-use Prim.Native.Nat.{ℕ, _+_, _-_, _*_, _≤_, _<_}
+use Prim.Native.Nat.{ℕ, _+_, _-_, _*_}
 use native.Mathlib.Omega.{arith}
 use lib.Dec.{eqb}
-use lib.ListN.{length, getD, drop, length-append, length-drop}
+use lib.ListN.{length, drop, length-drop}
 use lib.Seq.{getD-drop}
 use Rattle.std.proofs.shelf.Lists.{append-assoc, length-map}
 use Rattle.text.specs.Lines.{isEnd}
 use Rattle.text.specs.Columns.{unitsOf}
 use Rattle.languages.specs.declared.token.Token.{Token}
-use Rattle.languages.specs.Tokens.{Next, Fits, tokens, end}
+use Rattle.languages.specs.Tokens.{Next, Fits, tokens}
 use Rattle.coding.specs.declared.placed.PlacedToken.{PlacedToken}
-use Rattle.coding.specs.Placing.{lineOf, columnOf, placed}
+use Rattle.coding.specs.Placing.{columnOf, placed}
 use Rattle.coding.specs.Coding.{code, fresh}
-use Rattle.coding.proofs.Moving.{line-to, column-to, column-flat}
+use Rattle.coding.proofs.Moving.{column-flat}
 
 -- what is coded so far, with the five numbers of the next token
 pub coded-more : (r s all : List ℕ) (a b n k m l c : ℕ) (x : PlacedToken) (xs : List PlacedToken)

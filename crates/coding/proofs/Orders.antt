@@ -1,6 +1,6 @@
 -- Codings of lists of tokens: joined, in order, decoded, and within a word. Assumes nothing.
 use mathlib.Core.Path.{_≡_, refl, sym, ap, subst, _∙_}
-use mathlib.Core.Bool.{Bool, true, false, cond}
+use mathlib.Core.Bool.{cond}
 use mathlib.Core.List.{List, [], _∷_, _++_, map}
 use mathlib.Core.Logic.{_⊎_, inl, inr, ⊎-elim}
 use Prim.Native.Nat.{ℕ, zero, suc, _+_, _-_, _*_, _^_, _≤_, _<_}
@@ -8,7 +8,6 @@ use native.Mathlib.Omega.{arith}
 use lib.Dec.{eqb}
 use lib.ListN.{length, take, drop, length-drop}
 use Rattle.std.specs.shelf.Lists.{All}
-use Rattle.std.specs.declared.option.Option.{Option}
 use Rattle.std.specs.declared.option.Option.the-variants.{None, Some}
 use Rattle.std.proofs.shelf.Lists.{take-at}
 use Rattle.std.proofs.shelf.Tests.{cond-true, cond-false, cond-both, eq-eqb, ne-eqb, cases-lt, cases-bool}
@@ -16,7 +15,6 @@ use Rattle.text.specs.Units.{Counts}
 use Rattle.text.specs.Lines.{ends}
 use Rattle.text.specs.Columns.{wide, unitsOf}
 use Rattle.text.specs.Positions.{IsText}
-use Rattle.languages.specs.declared.token.Token.{Token}
 use Rattle.languages.specs.Tokens.{Next, LanguageLaws, followed, up-to, tokens, end}
 use Rattle.coding.specs.declared.placed.PlacedToken.{PlacedToken}
 use Rattle.coding.specs.Placing.{lineOf, columnOf, placed, placedTokens}

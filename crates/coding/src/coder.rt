@@ -15,11 +15,10 @@ use crate::cursor::Cursor;
 use crate::cursor::advance;
 use languages::language::Language;
 use languages::walk::ask;
-use languages::walk::count_in;
+use languages::walk::count_tokens;
 use lists::growing::Full;
 use lists::growing::Growing;
 use refusals::Refusal;
-use text::changes::check;
 use text::encodings::PositionEncoding;
 use text::places::Place;
 
@@ -63,7 +62,7 @@ fn column_from(before: Cursor, start: Cursor) -> u32
 
 // Gathers the coding of a text of at most 512 tokens at the front of the list, and answers how many numbers it has.
 // One cursor goes over the text once for all tokens together: each token is counted on from the end of the one before.
-pub fn gather<L: Language, E: PositionEncoding>(
+fn gather<L: Language, E: PositionEncoding>(
     language: &L,
     encoding: &E,
     text: &[u8],
@@ -120,8 +119,8 @@ pub fn code<L: Language, E: PositionEncoding>(
     if list.len() < LIST_LIMIT {
         return Err(Refusal::Memory);
     }
-    check(text)?;
-    if count_in(language, text) > TOKEN_LIMIT {
+    let count = count_tokens(language, text)?;
+    if count > TOKEN_LIMIT {
         return Err(Refusal::TooManyTokens);
     }
     Ok(gather(language, encoding, text, &mut list[0..LIST_LIMIT]))

@@ -9,14 +9,14 @@ use text::positions::units_at;
 
 // A place of a text with its line and its column.
 #[derive(Clone, Copy)]
-pub struct Cursor {
+pub(crate) struct Cursor {
     pub at: usize,
     pub line: u32,
     pub column: u32,
 }
 
 // The cursor moved on to a later place. Each byte is looked at once, however many moves there are.
-pub fn advance<E: PositionEncoding>(
+pub(crate) fn advance<E: PositionEncoding>(
     encoding: &E,
     text: &[u8],
     from: Cursor,

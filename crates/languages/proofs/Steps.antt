@@ -1,16 +1,17 @@
 -- The token list, asked step by step, and the law of beginnings from what each answer keeps. Assumes nothing.
 use mathlib.Core.Path.{_≡_, refl, ap, _∙_, sym}
 use mathlib.Core.List.{List, [], _∷_, _++_}
-use mathlib.Core.Bool.{Bool, true, false, cond}
 use Prim.Native.Nat.{ℕ, zero, suc, _+_, _-_, _<_, _≤_}
 use native.Mathlib.Omega.{arith}
 use lib.ListN.{length, length-append}
 use Rattle.std.specs.declared.option.Option.{Option}
 use Rattle.std.specs.declared.option.Option.the-variants.{Some, None}
 use Rattle.std.proofs.shelf.Tests.{lt-ltb, le-ltb}
-use Rattle.text.specs.Positions.{IsText}
+use Rattle.refusals.specs.Outcomes.{refused, taken}
+use Rattle.refusals.proofs.Settles.{settle-taken, settle-refused}
+use Rattle.text.specs.Positions.{IsText, text-checks, check-rule}
 use Rattle.languages.specs.declared.token.Token.{Token}
-use Rattle.languages.specs.Tokens.{LanguageLaws, Next, followed, up-to, rest, tokens, within, end}
+use Rattle.languages.specs.Tokens.{LanguageLaws, Next, followed, up-to, rest, tokens, within, end, count-rule}
 
 -- a token that the answer from a place may be: it starts there or later, has a byte, and lies in the text
 pub record Goes (text : List ℕ) (from : ℕ) (t : Token) : Type 0 where
@@ -104,3 +105,15 @@ module _ (next : Next) (p x : List ℕ) (here : GoesOn next p) (there : GoesOn n
   pub cut-tokens : within (length p) (tokens next (p ++ x)) ≡ tokens next p
   unfolding tokens
   cut-tokens = cut-from (length (p ++ x) - 0) (length p - 0) 0 (omega arith) (simp length-append (omega arith)) (omega arith)
+
+-- what a count says of the bytes that were counted
+
+pub uncounted : (next : Next) (t : List ℕ) (k : ℕ) → refused k tt ≡ count-rule next t → refused k tt ≡ check-rule t
+uncounted next t k e = sym (settle-refused (tt {0}) (length (tokens next t)) (tt {0}) (tt {0}) (text-checks t) k tt (sym e) .1)
+
+module _ (next : Next) (t : List ℕ) (n : ℕ) (e : taken n ≡ count-rule next t) where
+  pub counted : n ≡ length (tokens next t)
+  counted = settle-taken (tt {0}) (length (tokens next t)) (tt {0}) (tt {0}) (text-checks t) n (sym e) .0
+
+  pub counted-text : taken tt ≡ check-rule t
+  counted-text = sym (settle-taken (tt {0}) (length (tokens next t)) (tt {0}) (tt {0}) (text-checks t) n (sym e) .1)

@@ -20,8 +20,8 @@ pub fn ask<L: Language>(language: &L, text: &[u8], from: Place) -> Option<Token>
     language.next_token(text, from)
 }
 
-// How many tokens the text has.
-pub fn count_in<L: Language>(language: &L, text: &[u8]) -> usize
+// How many tokens a text has.
+fn count_in<L: Language>(language: &L, text: &[u8]) -> usize
     requires { ⌜ IsText (now text) ⌝ }
     ensures { λ r. ⌜ r ≡ length (tokens (next (now (language .entry))) (now (text .entry))) ⌝ }
 {
@@ -34,7 +34,7 @@ pub fn count_in<L: Language>(language: &L, text: &[u8]) -> usize
     count
 }
 
-// The same for any bytes: 7 where they are too many, 8 where they are ill-formed.
+// How many tokens the text has: 7 where they are too many, 8 where they are ill-formed.
 pub fn count_tokens<L: Language>(language: &L, text: &[u8]) -> Result<usize, Refusal>
     ensures { λ r. ⌜ outcome (λ n. n) r tt ≡ count-rule (next (now (language .entry))) (now (text .entry)) ⌝ }
 {

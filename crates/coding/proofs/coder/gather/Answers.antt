@@ -1,16 +1,14 @@
 use mathlib.Core.Path.{_≡_, refl, sym, ap, _∙_}
 use mathlib.Core.Bool.{cond}
-use mathlib.Core.List.{List, map, _∷_, _++_}
-use Prim.Native.Nat.{ℕ, _+_, _-_, _*_, _≤_}
+use mathlib.Core.List.{map, _++_}
+use Prim.Native.Nat.{ℕ, _+_, _-_}
 use native.Mathlib.Omega.{arith}
 use lib.Dec.{eqb}
 use lib.ListN.{length, take, drop}
 use borrow.Author.Needs.{needs}
 use Rattle.std.proofs.shelf.Lists.{append-nil, length-map}
-use Rattle.languages.specs.declared.token.Token.{Token}
 use Rattle.languages.specs.Tokens.{rest, tokens, end}
 use Rattle.text.specs.Columns.{unitsOf}
-use Rattle.coding.specs.declared.placed.PlacedToken.{PlacedToken}
 use Rattle.coding.specs.Placing.{lineOf, columnOf, placed}
 use Rattle.coding.specs.Coding.{code, fresh}
 use Rattle.coding.proofs.Moving.{line-to, column-to}

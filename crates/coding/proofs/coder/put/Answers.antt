@@ -1,4 +1,4 @@
-use mathlib.Core.Path.{_≡_, ap, _∙_}
+use mathlib.Core.Path.{_≡_}
 use mathlib.Core.List.{List, [], _∷_, _++_}
 use Prim.Native.Nat.{ℕ}
 use borrow.Author.Needs.{needs}
@@ -10,7 +10,7 @@ five : (r s t u v w : List ℕ) (a b c d e : ℕ) → s ≡ r ++ (a ∷ []) → 
 five r s t u v w a b c d e p q x y z = simp (z, y, x, q, p, append-assoc)
 
 pub returns : need.returns
-returns c = 
+returns c =
     let p = c .in-Continue-push .ensures tt in
     let q = c .in-Continue-push-2 .ensures tt in
     let x = c .in-Continue-push-3 .ensures tt in

@@ -1,12 +1,11 @@
-use mathlib.Core.Path.{_≡_, sym, ap, _∙_}
-use mathlib.Core.Bool.{Bool, cond}
+use mathlib.Core.Path.{sym, ap, _∙_}
 use Prim.Native.Nat.{ℕ, _+_, _-_}
 use native.Mathlib.Omega.{arith}
 use borrow.Author.Needs.{needs}
 use lib.ListN.{drop}
 use Rattle.std.proofs.shelf.Tests.{cond-true, cond-false}
 use Rattle.text.specs.Columns.{wide}
-use Rattle.coding.specs.Placing.{lineOf, columnOf}
+use Rattle.coding.specs.Placing.{columnOf}
 use Rattle.coding.proofs.Moving.{wide-few, line-more, column-more}
 use Rattle.coding.proofs.cursor.advance.Needs as need
 use Rattle.coding.proofs.cursor.advance.Needs.{then-ends-line, else-ends-line}
