@@ -1,0 +1,3 @@
+// What a frame is made of: a header line, and words of 32 bits.
+pub mod header;
+pub mod words;
