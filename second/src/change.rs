@@ -20,7 +20,7 @@ impl Change {
     /// The new text, or the first refusal in the order of the checks.
     pub fn new_text(&self) -> Result<Vec<u8>, Refusal> {
         self.check_memory()?;
-        self.check_inserted()?;
+        utf8::check(&self.inserted)?;
         let replaced = self.replaced()?;
         let length = self.old.len() - replaced.len() + self.inserted.len();
         if length > LIMIT {
@@ -32,21 +32,10 @@ impl Change {
     }
 
     fn check_memory(&self) -> Result<(), Refusal> {
-        let holds_a_text = self.old.len() <= LIMIT && utf8::is_well_formed(&self.old);
-        if self.lent >= LIMIT && holds_a_text {
+        if self.lent >= LIMIT && utf8::check(&self.old).is_ok() {
             Ok(())
         } else {
             Err(Refusal::Memory)
-        }
-    }
-
-    fn check_inserted(&self) -> Result<(), Refusal> {
-        if self.inserted.len() > LIMIT {
-            Err(Refusal::InsertedTooLong)
-        } else if !utf8::is_well_formed(&self.inserted) {
-            Err(Refusal::InsertedIllFormed)
-        } else {
-            Ok(())
         }
     }
 

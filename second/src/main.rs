@@ -1,9 +1,12 @@
-//! Makes the test vectors: `second FOLDER` writes FOLDER/stdin, one case a
-//! line, and FOLDER/stdout, line by line the answer that the rules give.
+//! Makes the test vectors: `second FOLDER` writes, for each program that
+//! answers cases, FOLDER/PROGRAM/stdin, one case a line, and
+//! FOLDER/PROGRAM/stdout, line by line the answer that the rules give.
 
 mod case;
 mod cases;
 mod change;
+mod coding;
+mod language;
 mod notation;
 mod position;
 mod random;
@@ -31,14 +34,22 @@ fn main() -> ExitCode {
 }
 
 fn write(folder: &Path, cases: &[Case]) -> io::Result<()> {
-    fs::create_dir_all(folder)?;
-    fs::write(folder.join("stdin"), file(cases, Case::question))?;
-    fs::write(folder.join("stdout"), file(cases, Case::answer))
+    for program in Case::PROGRAMS {
+        let part = folder.join(program);
+        fs::create_dir_all(&part)?;
+        fs::write(part.join("stdin"), file(program, cases, Case::question))?;
+        fs::write(part.join("stdout"), file(program, cases, Case::answer))?;
+    }
+    Ok(())
 }
 
-/// A file with one line for each case.
-fn file(cases: &[Case], line: fn(&Case) -> String) -> String {
-    cases.iter().map(|case| line(case) + "\n").collect()
+/// A file with one line for each case of a program.
+fn file(program: &str, cases: &[Case], line: fn(&Case) -> String) -> String {
+    cases
+        .iter()
+        .filter(|case| case.program() == program)
+        .map(|case| line(case) + "\n")
+        .collect()
 }
 
 fn print_counts(cases: &[Case]) {

@@ -32,6 +32,11 @@ impl Encoding {
             Encoding::Utf32 => 1,
         }
     }
+
+    /// The units of whole characters.
+    pub fn count(self, characters: &[u8]) -> u64 {
+        utf8::lengths(characters).map(|length| self.units(length)).sum()
+    }
 }
 
 #[derive(Clone, Copy, Debug, PartialEq, Eq)]
@@ -60,7 +65,7 @@ impl Line {
 
     /// The length of the content in units.
     pub fn units(self, text: &[u8], encoding: Encoding) -> u64 {
-        utf8::lengths(self.content(text)).map(|length| encoding.units(length)).sum()
+        encoding.count(self.content(text))
     }
 
     /// The place after `character` units of the line.

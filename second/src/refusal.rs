@@ -4,10 +4,10 @@
 pub enum Refusal {
     /// The lent memory is too short, or what it holds is no text.
     Memory = 1,
-    /// The inserted text is over the limit.
-    InsertedTooLong = 7,
-    /// The inserted text is ill-formed.
-    InsertedIllFormed = 8,
+    /// The text is over the limit; of a change, the inserted one.
+    TooLong = 7,
+    /// The text is ill-formed; of a change, the inserted one.
+    IllFormed = 8,
     /// The line is not there.
     NoSuchLine = 12,
     /// The position falls inside a character.
@@ -16,6 +16,8 @@ pub enum Refusal {
     StartAfterEnd = 14,
     /// The new text would be over the limit.
     NewTooLong = 15,
+    /// The text has more tokens than a coding takes.
+    TooManyTokens = 18,
 }
 
 impl Refusal {

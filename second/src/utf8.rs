@@ -1,5 +1,7 @@
 //! Well-formed UTF-8 as in RFC 3629, decided by the bytes alone.
 
+use crate::refusal::Refusal;
+
 /// The most bytes that a text may have.
 pub const LIMIT: usize = 8192;
 
@@ -51,6 +53,17 @@ pub fn is_well_formed(bytes: &[u8]) -> bool {
         }
     }
     true
+}
+
+/// Whether the bytes are a text: not too long, and well-formed.
+pub fn check(bytes: &[u8]) -> Result<(), Refusal> {
+    if bytes.len() > LIMIT {
+        Err(Refusal::TooLong)
+    } else if !is_well_formed(bytes) {
+        Err(Refusal::IllFormed)
+    } else {
+        Ok(())
+    }
 }
 
 /// The lengths in bytes of the characters of a well-formed text.

@@ -1,0 +1,5 @@
+pub mod Contents
+pub mod Classes
+pub mod Steps
+pub mod Laws
+pub mod Firsts
