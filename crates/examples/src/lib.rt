@@ -4,8 +4,8 @@ ghost use Rattle.examples.specs.Examples.{Examples};
 
 // How many examples are proved.
 pub fn worked_examples() -> u32
-    ensures count { λ r. ⌜ r ≡ 6 ⌝ }
+    ensures count { λ r. ⌜ r ≡ 8 ⌝ }
     ensures proved { λ _. ⌜ Examples ⌝ }
 {
-    6
+    8
 }
