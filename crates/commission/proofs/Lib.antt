@@ -1,4 +1,3 @@
 mod Settled
-mod Sizes
 mod Views
 mod Typing

@@ -15,7 +15,7 @@ use Rattle.text.specs.declared.places.Range.{Range}
 use Rattle.text.specs.Positions.{Changed, limit, text-checks, range-checks, typed, unsound, change-rule, leaves}
 use Rattle.utf8.specs.Grammar.{wellFormed}
 use Rattle.commission.specs.declared.session.Session.{Session}
-use Rattle.commission.specs.Encoded.{unitsOf}
+use Rattle.chosen.specs.Names.{unitsOf}
 use Rattle.commission.specs.Rules.{View, view, holding, unfit, ready-checks, ready-rule, type-rule}
 use Rattle.commission.proofs.Settled.{Clear, passed, past, all-past, stopped}
 use Rattle.commission.proofs.Views.{front}

@@ -1,3 +1,2 @@
-pub mod Encoded
 pub mod Fields
 pub mod Rules

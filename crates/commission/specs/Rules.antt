@@ -19,7 +19,7 @@ use Rattle.text.specs.Positions.{limit, text-checks, range-checks, typed}
 use Rattle.commission.specs.declared.command.Call.{Call}
 use Rattle.commission.specs.declared.command.Call.the-variants.{Open, Replace, «Type»}
 use Rattle.commission.specs.declared.session.Session.{Session}
-use Rattle.commission.specs.Encoded.{unitsOf}
+use Rattle.chosen.specs.Names.{unitsOf}
 
 pub record View : Type 0 where
   pub encoding : Encoding

@@ -2,6 +2,7 @@
 ghost use mathlib.Core.Path.{_≡_};
 ghost use Rattle.std.specs.Options.{mapped};
 ghost use Rattle.commission.specs.Fields.{blank, passedOver, positionField, lendOf};
+use chosen::tongues::Tongue;
 use notation::Encoding;
 use notation::read_encoding;
 use notation::read_last_text;
@@ -17,9 +18,11 @@ use text::places::Range;
 #[derive(Drop)]
 pub enum Command {
     Encoding(Encoding),
+    Language(Tongue),
     Lend(usize),
     New,
     State,
+    Show,
     Call(Call),
 }
 
@@ -157,8 +160,11 @@ fn read_setting(line: &[u8]) -> Option<Command> {
         return read_lend(fields);
     }
     match line {
+        b"routes" => Some(Command::Language(Tongue::Routes)),
+        b"settings" => Some(Command::Language(Tongue::Settings)),
         b"new" => Some(Command::New),
         b"state" => Some(Command::State),
+        b"show" => Some(Command::Show),
         _ => None,
     }
 }

@@ -3,29 +3,35 @@
 //
 //     utf-8 | utf-16 | utf-32     the encoding of positions, before the first call, else it is out of place;
 //                                 utf-16 if none is given
+//     routes | settings           the language, before the first call, else it is out of place; routes if none is given
 //     open TEXT                   a new text
 //     replace TEXT                a whole new text for the one at hand
 //     type START END TEXT         a change, from a position LINE:CHARACTER to another
 //     lend N                      lends the library N bytes of memory from now on, at most 65,536; 8,192 if never said
 //     new                         starts again with no text; the encoding may be chosen again, what is lent stays
 //     state                       prints the text at hand
+//     show                        prints the text at hand in colours, with a legend
 //
 // `open`, `replace` and `type` are calls: for each the line's number, the call's word, the number sent back (0 where
 // the call was taken) and words that say it are printed. Any other line is reported as no call.
 mod calls;
 mod command;
-mod encoded;
+mod painting;
 mod session;
 mod words;
 
 use command::Command;
 use command::is_passed_over;
 use command::read_command;
+use chosen::tongues::Tongue;
+use examples::worked_examples;
 use notation::first_line;
+use painting::show;
 use refusals::Refusal;
 use session::Session;
 use std::io;
 use std::io::Read;
+use std::io::Write;
 use words::words_of;
 
 // How many calls were taken and refused.
@@ -61,10 +67,28 @@ fn report(
     }
 }
 
+// Prints the text at hand in colours.
+fn print_colours(
+    rt: &LibcRuntime,
+    session: &Session,
+    tongue: Tongue,
+    number: u64,
+) -> io::Result<()> {
+    if !session.opened {
+        return println!(rt, "no text");
+    }
+    let text = &session.memory[0..session.size];
+    match show(rt.alloc(), tongue, session.encoding, text)? {
+        Ok(painted) => rt.stdout().write_all(painted.as_slice()),
+        Err(refusal) => report(rt, number, "show", Err(refusal)),
+    }
+}
+
 // Carries out one line of the script.
 fn carry_out(
     rt: &LibcRuntime,
     session: &mut Session,
+    tongue: &mut Tongue,
     tally: &mut Tally,
     number: u64,
     line: &[u8],
@@ -78,8 +102,19 @@ fn carry_out(
                 println!(rt, "{number}: out of place")?;
             }
         }
+        Command::Language(language) => {
+            if session.called {
+                println!(rt, "{number}: out of place")?;
+            } else {
+                *tongue = language;
+            }
+        }
         Command::Lend(bytes) => session.lend(bytes)?,
-        Command::New => session.start_again(),
+        Command::New => {
+            session.start_again();
+            *tongue = Tongue::Routes;
+        }
+        Command::Show => print_colours(rt, session, *tongue, number)?,
         Command::State => {
             let state = session.state(rt.alloc())?;
             println!(rt, "{state}")?;
@@ -97,7 +132,10 @@ fn main(rt: LibcRuntime) -> io::Result<()> {
     let heap = rt.alloc();
     let mut script = Vec::new(heap);
     rt.stdin().read_to_end(&mut script)?;
+    let count = worked_examples();
+    println!(rt, "{count} worked examples are proved")?;
     let mut session = Session::new(heap)?;
+    let mut tongue = Tongue::Routes;
     let mut tally = Tally {
         taken: 0,
         refused: 0,
@@ -109,7 +147,7 @@ fn main(rt: LibcRuntime) -> io::Result<()> {
         }
         let line = first_line(rest);
         if !is_passed_over(line.content) {
-            carry_out(&rt, &mut session, &mut tally, number, line.content)?;
+            carry_out(&rt, &mut session, &mut tongue, &mut tally, number, line.content)?;
         }
         rest = line.rest;
     }

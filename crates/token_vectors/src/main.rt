@@ -7,7 +7,6 @@
 // Fields stand a space apart, and nothing follows the last. For any other line the answer is `no case`.
 mod cases;
 mod codings;
-mod tongues;
 
 use cases::answer;
 use notation::first_line;

@@ -6,8 +6,11 @@ ghost use lib.Chars.{codes};
 ghost use Rattle.std.specs.Of.String.{string-bytes};
 ghost use Rattle.std.specs.Vec.{made};
 ghost use Rattle.std.specs.Written.{decimal};
+ghost use Rattle.notation.specs.Texts.{written};
 ghost use Rattle.refusals.specs.Numbers.{numberOf};
 ghost use Rattle.vectors.specs.Fields.{settledText};
+use crate::fields::Both;
+use crate::fields::Order;
 use crate::fields::last_texts;
 use crate::fields::order_fields;
 use crate::fields::spot_fields;
@@ -96,6 +99,15 @@ fn answer_cut(heap: Global, fields: &[u8]) -> Result<Option<String>, AllocError>
     Ok(Some(settled(heap, outcome)?))
 }
 
+// The answer of a change that was taken: 0 and the text.
+fn taken(heap: Global, text: &[u8]) -> Result<String, AllocError>
+    ensures { λ r. ⌜ made r (λ s. string-bytes s ≡ codes "0 " ++ written (now (text .entry))) ⌝ }
+{
+    let mut answer = String::from_str(heap, "0 ")?;
+    write_text(text, &mut answer)?;
+    Ok(answer)
+}
+
 // The answer of a change that was refused: after the refusal the lent memory has to be as it was.
 fn refused(heap: Global, refusal: Refusal, same: bool) -> Result<String, AllocError>
     ensures { λ r. ⌜ made r (λ s. string-bytes s ≡ decimal (numberOf refusal) ++ cond same [] (codes " changed")) ⌝ }
@@ -105,6 +117,20 @@ fn refused(heap: Global, refusal: Refusal, same: bool) -> Result<String, AllocEr
     Ok(answer)
 }
 
+// Puts the old text at the front of memory that is long enough, lends the first bytes of it, and changes the text.
+fn try_change(heap: Global, order: Order<'_>, texts: Both) -> Result<String, AllocError> {
+    let Both { old, new } = texts;
+    let size = old.len();
+    let mut before = old;
+    before.resize(size.max(order.lent), 0)?;
+    let mut memory = before.clone()?;
+    let lent = &mut memory[0..order.lent];
+    match change(order.encoding, lent, size, order.range, new.as_slice()) {
+        Ok(size) => taken(heap, &memory[0..size]),
+        Err(refusal) => refused(heap, refusal, memory == before),
+    }
+}
+
 fn answer_change(heap: Global, fields: &[u8]) -> Result<Option<String>, AllocError> {
     let Some(order) = order_fields(fields) else {
         return Ok(None);
@@ -112,25 +138,7 @@ fn answer_change(heap: Global, fields: &[u8]) -> Result<Option<String>, AllocErr
     let Some(texts) = last_texts(heap, order.rest)? else {
         return Ok(None);
     };
-    let length = texts.old.len();
-    let mut before = texts.old;
-    before.resize(length.max(order.lent), 0)?;
-    let mut memory = before.clone()?;
-    let lent = &mut memory[0..order.lent];
-    match change(
-        order.encoding,
-        lent,
-        length,
-        order.range,
-        texts.new.as_slice(),
-    ) {
-        Ok(size) => {
-            let mut answer = String::from_str(heap, "0 ")?;
-            write_text(&memory[0..size], &mut answer)?;
-            Ok(Some(answer))
-        }
-        Err(refusal) => Ok(Some(refused(heap, refusal, memory == before)?)),
-    }
+    Ok(Some(try_change(heap, order, texts)?))
 }
 
 fn answer_case(heap: Global, line: &[u8]) -> Result<Option<String>, AllocError> {

@@ -1,4 +1,8 @@
-// The languages by their names, and the library's calls in the language and encoding that a case names.
+// Languages by their names, and coding in a language and an encoding that were named.
+ghost use mathlib.Core.Path.{_≡_};
+ghost use Rattle.refusals.specs.Outcomes.{outcome};
+ghost use Rattle.coding.specs.Coding.{code-rule, leaves};
+ghost use Rattle.chosen.specs.Names.{unitsOf, nextOf};
 use coding::coder::code;
 use languages::language::Language;
 use notation::Encoding;
@@ -48,7 +52,9 @@ fn code_in<L: Language>(
     encoding: Encoding,
     text: &[u8],
     list: &mut [u32],
-) -> Result<usize, Refusal> {
+) -> Result<usize, Refusal>
+    ensures { λ r. ⌜ outcome (leaves (now (list .exit))) r (now (list .exit)) ≡ code-rule (unitsOf encoding) (next (now (language .entry))) (now (text .entry)) (now (list .entry)) ⌝ }
+{
     match encoding {
         Encoding::Utf8 => code(language, &Utf8Units, text, list),
         Encoding::Utf16 => code(language, &Utf16Units, text, list),
@@ -61,7 +67,9 @@ pub fn code_text(
     encoding: Encoding,
     text: &[u8],
     list: &mut [u32],
-) -> Result<usize, Refusal> {
+) -> Result<usize, Refusal>
+    ensures { λ r. ⌜ outcome (leaves (now (list .exit))) r (now (list .exit)) ≡ code-rule (unitsOf encoding) (nextOf tongue) (now (text .entry)) (now (list .entry)) ⌝ }
+{
     match tongue {
         Tongue::Routes => code_in(&Routes, encoding, text, list),
         Tongue::Settings => code_in(&Settings, encoding, text, list),
