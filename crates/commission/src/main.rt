@@ -20,10 +20,10 @@ mod painting;
 mod session;
 mod words;
 
+use chosen::tongues::Tongue;
 use command::Command;
 use command::is_passed_over;
 use command::read_command;
-use chosen::tongues::Tongue;
 use examples::worked_examples;
 use notation::first_line;
 use painting::show;
@@ -147,7 +147,14 @@ fn main(rt: LibcRuntime) -> io::Result<()> {
         }
         let line = first_line(rest);
         if !is_passed_over(line.content) {
-            carry_out(&rt, &mut session, &mut tongue, &mut tally, number, line.content)?;
+            carry_out(
+                &rt,
+                &mut session,
+                &mut tongue,
+                &mut tally,
+                number,
+                line.content,
+            )?;
         }
         rest = line.rest;
     }

@@ -9,7 +9,6 @@
 // Fields stand a space apart, and nothing follows the last. For any other line the answer is `no case`.
 mod cases;
 mod fields;
-mod texts;
 
 use cases::answer;
 use notation::first_line;
