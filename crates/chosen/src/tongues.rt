@@ -2,7 +2,7 @@
 ghost use mathlib.Core.Path.{_≡_};
 ghost use Rattle.refusals.specs.Outcomes.{outcome};
 ghost use Rattle.coding.specs.Coding.{code-rule, leaves};
-ghost use Rattle.chosen.specs.Names.{unitsOf, nextOf};
+ghost use Rattle.chosen.specs.Names.{unitsOf, nextOf, Speaks};
 use coding::coder::code;
 use languages::language::Language;
 use notation::Encoding;
@@ -31,7 +31,10 @@ pub struct Spoken<'a> {
     pub rest: &'a [u8],
 }
 
-pub fn read_tongue(from: &[u8]) -> Option<Spoken<'_>> {
+// The language whose name and a space stand at the front of `from`.
+pub fn read_tongue(from: &[u8]) -> Option<Spoken<'_>>
+    ensures { λ r. ⌜ Speaks (now (from .entry)) r ⌝ }
+{
     if let Some(rest) = from.strip_prefix(b"routes ") {
         return Some(Spoken {
             tongue: Tongue::Routes,

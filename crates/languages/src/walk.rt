@@ -11,11 +11,10 @@ use crate::token::Token;
 use refusals::Refusal;
 use text::places::Place;
 
-// The next token of a text, with what the laws say of it: it fits, and it is the first of those that are left.
+// The next token from a place on, with what the laws say of a text's: it fits, and it is the first of those that are left.
 pub fn ask<L: Language>(language: &L, text: &[u8], from: Place) -> Option<Token>
-    requires { ⌜ IsText (now text) ⌝ }
     ensures answer { λ r. ⌜ r ≡ next (now (language .entry)) (now (text .entry)) (from .0) ⌝ }
-    ensures step { λ r. ⌜ BySome r (rest (next (now (language .entry))) (now (text .entry)) (from .0) ≡ []) (λ t. Step (next (now (language .entry))) kinds (now (text .entry)) (from .0) t) ⌝ }
+    ensures step { λ r. ⌜ (IsText (now (text .entry)) → BySome r (rest (next (now (language .entry))) (now (text .entry)) (from .0) ≡ []) (λ t. Step (next (now (language .entry))) kinds (now (text .entry)) (from .0) t)) ⌝ }
 {
     language.next_token(text, from)
 }

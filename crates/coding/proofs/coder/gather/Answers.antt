@@ -24,7 +24,7 @@ loop-token-again g c =
     let at = c .loop-token .cursor .at in
     let k = c .in-Some .token in
     let p = k .place .0 in
-    let step = c .in-Some .ensures tt .step in
+    let step = c .in-Some .ensures tt .step (c .pre .text) in
     let f = step .fits in
     let s = c .advance-start .result in
     let e = c .advance-end .result in
@@ -70,14 +70,14 @@ sub-units g c =
     let s = c .advance-start .result in
     let sa : s .at ≡ k .place .0 = c .advance-start .ensures .at in
     let near : s .at + k .length - s .at ≡ k .length = omega arith in
-    let units = c .advance-end .ensures .column ∙ (λ i. columnOf u (drop (sa i) t) (near i) (s .column)) ∙ units-are u t _ (g .L·Language .kinds) k (c .in-Some .ensures tt .step .fits) (s .column) in
+    let units = c .advance-end .ensures .column ∙ (λ i. columnOf u (drop (sa i) t) (near i) (s .column)) ∙ units-are u t _ (g .L·Language .kinds) k (c .in-Some .ensures tt .step (c .pre .text) .fits) (s .column) in
     omega (arith, units)
 
 pub returns-in-Err : need.returns-in-Err
 unfolding tokens
 returns-in-Err g c =
     let inv = c .loop-token .inv in
-    absurd (omega (arith, c .in-Err .ensures tt .used, ap length (c .in-Some .ensures tt .step .first), inv .1, inv .3, ap length (c .new-numbers .ensures .slots), c .pre .few, c .pre .room))
+    absurd (omega (arith, c .in-Err .ensures tt .used, ap length (c .in-Some .ensures tt .step (c .pre .text) .first), inv .1, inv .3, ap length (c .new-numbers .ensures .slots), c .pre .few, c .pre .room))
 
 pub returns : need.returns
 unfolding fresh tokens
@@ -87,7 +87,7 @@ returns g c =
     let next = g .L·Language .next (c .args .language .now) in
     let inv = c .loop-token .inv in
     let b = c .loop-token .before in
-    let done = c .in-rest .ensures tt .step in
+    let done = c .in-rest .ensures tt .step (c .pre .text) in
     let list = take (c .loop-token .numbers .used) (c .loop-token .numbers .slots .now) in
     let all = sym (append-nil list) ∙ ap (λ r. list ++ code (b .line) (b .column) (map (placed u t) r)) (sym done) ∙ inv .2 in
     let xs = map (placed u t) (rest next t 0) in

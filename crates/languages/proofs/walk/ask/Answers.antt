@@ -19,5 +19,5 @@ pub returns : need.returns
 returns g c =
     record {
       answer = c .next-token .ensures;
-      step = asked (g .L·Language·met .lawful (c .args .language .now)) (c .args .text .now) (c .pre) (c .args .from .0) (c .next-token .result) (c .next-token .ensures);
+      step = λ is. asked (g .L·Language·met .lawful (c .args .language .now)) (c .args .text .now) is (c .args .from .0) (c .next-token .result) (c .next-token .ensures);
     }

@@ -6,4 +6,4 @@ use Rattle.languages.proofs.walk.count_in.Needs as need
 
 pub returns : need.returns
 unfolding tokens
-returns g c = omega (arith, ap length (c .in-rest .ensures tt .step))
+returns g c = omega (arith, ap length (c .in-rest .ensures tt .step (c .pre)))
