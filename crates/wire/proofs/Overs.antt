@@ -1,11 +1,14 @@
 -- Bytes written over a list, one part behind another. Assumes nothing.
 use mathlib.Core.Path.{_≡_, sym, ap, _∙_}
-use mathlib.Core.List.{List, _++_}
+use mathlib.Core.List.{List, [], _++_}
 use Prim.Native.Nat.{ℕ, _+_, _≤_}
 use native.Mathlib.Omega.{arith}
-use lib.ListN.{length, take, drop, length-append, length-drop}
+use lib.ListN.{length, take, drop, length-append, length-drop, take-append-drop}
 use Rattle.std.proofs.shelf.Lists.{append-assoc, take-at, drop-at, length-take-le, drop-drop}
 use Rattle.wire.specs.Words.{over}
+
+pub over-none : (out : List ℕ) (i : ℕ) → over out i [] ≡ out
+over-none out i = ap (λ (n : ℕ). take i out ++ drop n out) (let e : i + 0 ≡ i = omega arith in e) ∙ take-append-drop i out
 
 -- a part, and another right behind it, are both in a row
 pub over-over : (out a b : List ℕ) (i j : ℕ) → i ≤ length out → j ≡ i + length a → over (over out i a) j b ≡ over out i (a ++ b)

@@ -1,11 +1,12 @@
 -- Words of 32 bits, most significant byte first: 4 bits of kind and 28 of value. Assumes nothing.
 use mathlib.Core.Bool.{cond, _&&_}
 use mathlib.Core.List.{List, [], _∷_, _++_}
-use Prim.Native.Nat.{ℕ, _+_, _*_, _/_, _%_}
+use Prim.Native.Nat.{ℕ, _+_, _*_, _/_, _%_, _<_, _^_}
 use lib.Dec.{leb, eqb}
 use lib.ListN.{length, getD, take, drop}
 use Rattle.std.specs.declared.option.Option.{Option}
 use Rattle.std.specs.declared.option.Option.the-variants.{None, Some}
+use Rattle.wire.specs.declared.words.Word.{Word}
 
 -- the 32 bits at a place
 abbrev pub wordAt : List ℕ → ℕ → ℕ
@@ -28,3 +29,15 @@ fieldAt bs i kind low high =
 -- a list with the entries of new written over it from a place on
 abbrev pub over : List ℕ → ℕ → List ℕ → List ℕ
 over bs i new = take i bs ++ (new ++ drop (i + length new) bs)
+
+-- the bytes of words one behind another
+abbrev pub words : List Word → List ℕ
+words [] = []
+words (w ∷ ws) = wordOf (w .0) (w .1) ++ words ws
+
+-- a word that 4 and 28 bits hold
+abbrev pub Fitting : Word → Type 0
+Fitting w = (w .0 < 16) × (w .1 < 2 ^ 28)
+
+abbrev pub Octets : List ℕ → Type 0
+Octets bs = (i : ℕ) → getD bs i 0 < 256

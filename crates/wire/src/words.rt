@@ -1,11 +1,16 @@
 // Words of 32 bits, most significant byte first: 4 bits of kind and 28 of value.
 ghost use mathlib.Core.Path.{_≡_};
-ghost use Prim.Native.Nat.{_+_, _<_, _≤_, _^_};
+ghost use Prim.Native.Nat.{_+_, _*_, _<_, _≤_, _^_};
 ghost use lib.ListN.{length};
-ghost use Rattle.wire.specs.Words.{wordAt, wordOf, fieldAt, over};
+ghost use Rattle.std.specs.shelf.Lists.{All};
+ghost use Rattle.wire.specs.Words.{wordAt, wordOf, fieldAt, over, words, Fitting};
+
+// A word: its kind, and its value.
+#[derive(Clone, Copy)]
+pub struct Word(pub u32, pub u32);
 
 // The word at a place.
-fn word(body: &[u8], at: usize) -> u32
+fn word_at(body: &[u8], at: usize) -> u32
     requires { ⌜ at + 4 ≤ length (now body) ⌝ }
     ensures { λ r. ⌜ r ≡ wordAt (now (body .entry)) at ⌝ }
 {
@@ -22,7 +27,7 @@ pub fn field(body: &[u8], at: usize, kind: u32, low: u32, high: u32) -> Option<u
     if at > body.len() - 4 {
         return None;
     }
-    let w = word(body, at);
+    let w = word_at(body, at);
     let value = w % 0x1000_0000;
     if w / 0x1000_0000 == kind && low <= value && value <= high {
         Some(value)
@@ -50,4 +55,19 @@ pub fn put(out: &mut [u8], at: usize, kind: u32, value: u32) -> usize
 {
     let bytes = (kind * 0x1000_0000 + value).to_be_bytes();
     put_bytes(out, at, &bytes)
+}
+
+// Writes words one behind another from a place on, and answers the place behind them.
+pub fn put_words(out: &mut [u8], start: usize, given: &[Word]) -> usize
+    requires { ⌜ start + 4 * length (now given) ≤ length (now out) ⌝ ∗ ⌜ All Fitting (now given) ⌝ }
+    ensures next { λ r. ⌜ r ≡ start + 4 * length (now (given .entry)) ⌝ }
+    ensures bytes { λ _. ⌜ now (out .exit) ≡ over (now (out .entry)) start (words (now (given .entry))) ⌝ }
+{
+    let mut at = start;
+    let mut i = 0;
+    while i < given.len() {
+        at = put(out, at, given[i].0, given[i].1);
+        i += 1;
+    }
+    at
 }
