@@ -23,7 +23,7 @@ use text::lines::line_count;
 use text::places::Range;
 
 impl Session {
-    pub fn new(heap: Global) -> Result<Session, AllocError>
+    pub(crate) fn new(heap: Global) -> Result<Session, AllocError>
         ensures { λ r. ⌜ made r (λ s. view s ≡ started 8192) ⌝ }
     {
         let memory = vec![in heap; 0; TEXT_LIMIT]?;
@@ -38,7 +38,7 @@ impl Session {
     }
 
     // Starts again with no text. What is lent stays.
-    pub fn start_again(&mut self)
+    pub(crate) fn start_again(&mut self)
         ensures { λ _. ⌜ view (now (self .exit)) ≡ started (now (self .entry) .lent) ⌝ }
     {
         self.encoding = Encoding::Utf16;
@@ -48,7 +48,7 @@ impl Session {
     }
 
     // Chooses the encoding, and says whether it could be chosen.
-    pub fn choose(&mut self, encoding: Encoding) -> bool
+    pub(crate) fn choose(&mut self, encoding: Encoding) -> bool
         ensures answer { λ r. ⌜ r ≡ not (now (self .entry) .called) ⌝ }
         ensures after { λ r. ⌜ view (now (self .exit)) ≡ cond r (encoded encoding (view (now (self .entry)))) (view (now (self .entry))) ⌝ }
     {
@@ -60,7 +60,7 @@ impl Session {
     }
 
     // Lends so many bytes from now on. The memory never shrinks, so the text stays.
-    pub fn lend(&mut self, bytes: usize) -> Result<(), AllocError>
+    pub(crate) fn lend(&mut self, bytes: usize) -> Result<(), AllocError>
         ensures { λ r. ⌜ made r (λ _. view (now (self .exit)) ≡ lending bytes (view (now (self .entry)))) ⌝ }
     {
         let size = self.memory.len().max(bytes);
@@ -111,7 +111,7 @@ impl Session {
     }
 
     // Makes a call.
-    pub fn make(&mut self, call: &Call) -> Result<(), Refusal>
+    pub(crate) fn make(&mut self, call: &Call) -> Result<(), Refusal>
         ensures { λ r. ⌜ outcome (λ _. view (now (self .exit))) r (view (now (self .exit))) ≡ call-rule (calling (view (now (self .entry)))) (now (call .entry)) ⌝ }
     {
         self.called = true;
@@ -123,7 +123,7 @@ impl Session {
     }
 
     // The line that tells the text at hand.
-    pub fn state(&self, heap: Global) -> Result<String, AllocError>
+    pub(crate) fn state(&self, heap: Global) -> Result<String, AllocError>
         ensures { λ r. ⌜ made r (λ s. string-bytes s ≡ told (view (now (self .entry)))) ⌝ }
     {
         if !self.opened {

@@ -45,7 +45,7 @@ pub struct Typing {
 const MOST_LENT: u32 = 65_536;
 
 impl Call {
-    pub fn word(&self) -> &'static str {
+    pub(crate) fn word(&self) -> &'static str {
         match self {
             Call::Open(_) => "open",
             Call::Replace(_) => "replace",
@@ -67,7 +67,7 @@ fn is_blank(line: &[u8]) -> bool
 }
 
 // Whether a line is passed over: a comment, or blank.
-pub fn is_passed_over(line: &[u8]) -> bool
+pub(crate) fn is_passed_over(line: &[u8]) -> bool
     ensures { λ r. ⌜ r ≡ passedOver (now (line .entry)) ⌝ }
 {
     match line {
@@ -170,7 +170,7 @@ fn read_setting(line: &[u8]) -> Option<Command> {
 }
 
 // The command on a line, none where there is none.
-pub fn read_command(heap: Global, line: &[u8]) -> Result<Option<Command>, AllocError> {
+pub(crate) fn read_command(heap: Global, line: &[u8]) -> Result<Option<Command>, AllocError> {
     if let Some(call) = read_call(heap, line)? {
         return Ok(Some(Command::Call(call)));
     }

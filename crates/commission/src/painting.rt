@@ -128,7 +128,7 @@ fn paint_tokens(
 }
 
 // The text in colours, with a legend below it, or why it has none.
-pub fn show(
+pub(crate) fn show(
     heap: Global,
     tongue: Tongue,
     encoding: Encoding,

@@ -1,7 +1,7 @@
 // What a refusal says, in a few words.
 use refusals::Refusal;
 
-pub fn words_of(refusal: Refusal) -> &'static str {
+pub(crate) fn words_of(refusal: Refusal) -> &'static str {
     match refusal {
         Refusal::Memory => "memory is shorter than stated, or a stored text is ill-formed",
         Refusal::ListFull => "the list of sent frames is full",

@@ -118,7 +118,7 @@ fn answer_case(
     Ok(None)
 }
 
-pub fn answer(heap: Global, line: &[u8], list: &mut Vec<u32>) -> Result<String, AllocError> {
+pub(crate) fn answer(heap: Global, line: &[u8], list: &mut Vec<u32>) -> Result<String, AllocError> {
     match answer_case(heap, line, list)? {
         Some(answer) => Ok(answer),
         None => String::from_str(heap, "no case"),

@@ -8,7 +8,7 @@ use std::alloc::Global;
 use text::places::Place;
 
 // Numbers with commas between them.
-pub fn write_numbers(heap: Global, numbers: &[u32]) -> Result<String, AllocError> {
+pub(crate) fn write_numbers(heap: Global, numbers: &[u32]) -> Result<String, AllocError> {
     let mut written = String::new(heap);
     for number in numbers {
         if !written.is_empty() {
@@ -20,7 +20,7 @@ pub fn write_numbers(heap: Global, numbers: &[u32]) -> Result<String, AllocError
 }
 
 // Numbers with commas between them, and nothing behind the last; none where that is not so.
-pub fn read_numbers(heap: Global, from: &[u8]) -> Result<Option<Vec<u32>>, AllocError> {
+pub(crate) fn read_numbers(heap: Global, from: &[u8]) -> Result<Option<Vec<u32>>, AllocError> {
     let mut numbers = Vec::new(heap);
     let mut rest = from;
     for _ in 0..from.len() {
@@ -40,7 +40,7 @@ pub fn read_numbers(heap: Global, from: &[u8]) -> Result<Option<Vec<u32>>, Alloc
 }
 
 // The tokens of a coded list.
-pub fn write_decoded(heap: Global, list: &[u32]) -> Result<String, AllocError> {
+pub(crate) fn write_decoded(heap: Global, list: &[u32]) -> Result<String, AllocError> {
     let mut written = String::new(heap);
     for k in 0..512 {
         let Some(token) = token_at(list, k) else {
@@ -60,7 +60,7 @@ pub fn write_decoded(heap: Global, list: &[u32]) -> Result<String, AllocError> {
 }
 
 // The tokens of a text, asked one by one. A language that keeps its laws ends by itself; the count is for the others.
-pub fn write_tokens<L: Language>(
+pub(crate) fn write_tokens<L: Language>(
     heap: Global,
     language: &L,
     text: &[u8],

@@ -160,7 +160,7 @@ fn answer_case(heap: Global, line: &[u8]) -> Result<Option<String>, AllocError> 
     Ok(None)
 }
 
-pub fn answer(heap: Global, line: &[u8]) -> Result<String, AllocError> {
+pub(crate) fn answer(heap: Global, line: &[u8]) -> Result<String, AllocError> {
     match answer_case(heap, line)? {
         Some(answer) => Ok(answer),
         None => String::from_str(heap, "no case"),

@@ -62,7 +62,7 @@ fn position_field(from: &[u8]) -> Option<Located<'_>>
 }
 
 // The fields of `place` and `cut` up to the text.
-pub fn spot_fields(from: &[u8]) -> Option<Spot<'_>> {
+pub(crate) fn spot_fields(from: &[u8]) -> Option<Spot<'_>> {
     let named = read_encoding(from)?;
     let spot = position_field(read_mark(named.rest, b' ')?)?;
     Some(Spot {
@@ -73,7 +73,7 @@ pub fn spot_fields(from: &[u8]) -> Option<Spot<'_>> {
 }
 
 // The fields of `change` up to the texts.
-pub fn order_fields(from: &[u8]) -> Option<Order<'_>> {
+pub(crate) fn order_fields(from: &[u8]) -> Option<Order<'_>> {
     let named = read_encoding(from)?;
     let lent = read_number(read_mark(named.rest, b' ')?)?;
     let start = position_field(read_mark(lent.rest, b' ')?)?;
@@ -90,7 +90,7 @@ pub fn order_fields(from: &[u8]) -> Option<Order<'_>> {
 }
 
 // Two texts that are the last fields.
-pub fn last_texts(heap: Global, from: &[u8]) -> Result<Option<Both>, AllocError> {
+pub(crate) fn last_texts(heap: Global, from: &[u8]) -> Result<Option<Both>, AllocError> {
     let Some(quoted) = read_text(heap, from)? else {
         return Ok(None);
     };
