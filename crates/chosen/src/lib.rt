@@ -1,3 +1,5 @@
 // The library's calls in the language and encoding that a program's input names.
+#![tactic(auto)]
+
 pub mod texts;
 pub mod tongues;

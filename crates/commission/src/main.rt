@@ -14,6 +14,8 @@
 //
 // `open`, `replace` and `type` are calls: for each the line's number, the call's word, the number sent back (0 where
 // the call was taken) and words that say it are printed. Any other line is reported as no call.
+#![tactic(auto)]
+
 mod calls;
 mod command;
 mod painting;

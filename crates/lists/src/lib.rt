@@ -1,4 +1,6 @@
 // Lists in slices that the caller lends: the first entries of the slice, up to a stated length.
+#![tactic(auto)]
+
 ghost use Rattle.std.specs.Prelude.{◌≡◌};
 ghost use Rattle.lists.specs.Splices.{ended, splice_rule, copied, copy_rule};
 

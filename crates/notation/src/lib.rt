@@ -1,5 +1,7 @@
 // How numbers and bytes are written in the lines of a script. A reader takes what stands at the front, and hands
 // back what follows it, so that another field can be read from there.
+#![tactic(auto)]
+
 mod encoding;
 mod line;
 mod number;

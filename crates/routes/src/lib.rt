@@ -1,5 +1,7 @@
 // Routes: a language of routing rules. `;` opens a comment, words begin with a letter or `_`, `route`, `to` and `drop`
 // are keywords, digits are a number, `+` and `#` are operators, and strings stand between quotes.
+#![tactic(auto)]
+
 ghost use Rattle.std.specs.Prelude.{◌≡◌};
 ghost use Rattle.text.specs.Lines.{content};
 ghost use Rattle.routes.specs.Reading.{opens, word_type, through, routes_reading, routes_next};

@@ -1,5 +1,7 @@
 // Settings: a language of named values. A word with only spaces and tabs before it in its line is a property; of the
 // others `on` and `off` are keywords, the rest variables. Digits are a number, and `=` is an operator.
+#![tactic(auto)]
+
 ghost use Rattle.std.specs.Prelude.{◌≡◌};
 ghost use Rattle.settings.specs.Reading.{opens, word_piece, settings_reading, settings_next};
 ghost use Rattle.settings.specs.Lawful.{settings_laws};

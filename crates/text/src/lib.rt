@@ -1,4 +1,6 @@
 // Texts: lines, positions in the units of an encoding, and changes.
+#![tactic(auto)]
+
 pub mod changes;
 pub mod encodings;
 pub mod lines;

@@ -5,6 +5,8 @@
 //     decode NUMBER,NUMBER,..          LINE:COLUMN+UNITS:TYPE:MODIFIERS of each token, or `none`
 //
 // Fields stand a space apart, and nothing follows the last. For any other line the answer is `no case`.
+#![tactic(auto)]
+
 mod cases;
 mod codings;
 

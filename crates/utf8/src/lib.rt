@@ -1,4 +1,6 @@
 // UTF-8 after RFC 3629.
+#![tactic(auto)]
+
 ghost use Rattle.std.specs.Prelude.{◌≡◌, ◌<◌, ◌≤◌, length, drop, Decides, slice_index};
 ghost use Rattle.utf8.specs.Characters.{First, Second, first_char, FirstCharStands};
 ghost use Rattle.utf8.specs.Grammar.{Tail, well_formed, TableIsUtf8, TestDecidesUtf8};

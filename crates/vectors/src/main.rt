@@ -7,6 +7,8 @@
 //     change ENCODING LENT START END OLD NEW  0 and the changed text, or the refusal's number
 //
 // Fields stand a space apart, and nothing follows the last. For any other line the answer is `no case`.
+#![tactic(auto)]
+
 mod cases;
 mod fields;
 

@@ -10,7 +10,7 @@ returns g c =
     let a = c.args.start in
     let b = c.args.end in
     let n = c.args.length in
-    let wrote = c.copy-from-slice.ensures.after in
+    let wrote = c.copy_from_slice.ensures.after in
     simp wrote
-    (ap (holds (a + length i + (n - b))) (moved t i c.copy-within.new.self a b n (omega arith) (omega arith) (omega arith) (omega arith) c.copy-within.ensures.after)
+    (ap (holds (a + length i + (n - b))) (moved t i c.copy_within.new.self a b n (omega arith) (omega arith) (omega arith) (omega arith) c.copy_within.ensures.after)
     ∙ sym (done t i a b n (omega arith) (omega arith) (omega arith) (omega arith)))

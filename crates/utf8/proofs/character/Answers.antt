@@ -3,22 +3,22 @@ use Rattle.utf8.proofs.Chars.{no_char, begins_one, at_ones, other_ones}
 use Rattle.utf8.proofs.character.Goals as goal
 
 pub two-requires : goal.two-requires
-two-requires c = let o = at_ones _ 2 (omega (arith, c.type-inv.text c.args.at)) (sym c.in-2.is ∙ c.leading-ones.ensures) 6 (omega arith) in (c.requires, omega arith, omega arith)
+two-requires c = let o = at_ones _ 2 (omega (arith, c.type_inv.text c.args.at)) (sym c.in-2.is ∙ c.leading_ones.ensures) 6 (omega arith) in (c.requires, omega arith, omega arith)
 
 pub three-requires : goal.three-requires
-three-requires c = let o = at_ones _ 3 (omega (arith, c.type-inv.text c.args.at)) (sym c.in-3.is ∙ c.leading-ones.ensures) 5 (omega arith) in (c.requires, omega arith, omega arith)
+three-requires c = let o = at_ones _ 3 (omega (arith, c.type_inv.text c.args.at)) (sym c.in-3.is ∙ c.leading_ones.ensures) 5 (omega arith) in (c.requires, omega arith, omega arith)
 
 pub four-requires : goal.four-requires
-four-requires c = let o = at_ones _ 4 (omega (arith, c.type-inv.text c.args.at)) (sym c.in-4.is ∙ c.leading-ones.ensures) 4 (omega arith) in (c.requires, omega arith, omega arith)
+four-requires c = let o = at_ones _ 4 (omega (arith, c.type_inv.text c.args.at)) (sym c.in-4.is ∙ c.leading_ones.ensures) 4 (omega arith) in (c.requires, omega arith, omega arith)
 
 pub returns-in-0 : goal.returns-in-0
 returns-in-0 c =
-    let o = at_ones _ 0 (omega (arith, c.type-inv.text c.args.at)) (sym c.in-0.is ∙ c.leading-ones.ensures) 8 (omega arith) in
+    let o = at_ones _ 0 (omega (arith, c.type_inv.text c.args.at)) (sym c.in-0.is ∙ c.leading_ones.ensures) 8 (omega arith) in
     begins_one c.args.text.now c.args.at (omega arith) (omega arith)
 
 pub returns-in-default : goal.returns-in-default
 returns-in-default c =
     let b : ℕ = get_or c.args.text.now c.args.at 0 in
-    let byte : b < 256 = omega (arith, c.type-inv.text c.args.at) in
+    let byte : b < 256 = omega (arith, c.type_inv.text c.args.at) in
     let o = other_ones b c.leading-ones.result byte c.leading-ones.ensures (λ e. omega arith) (λ e. omega arith) (λ e. omega arith) (λ e. omega arith) in
     no_char c.args.text.now c.args.at (λ r. let s = (r.second o.0).1 in o.1 s.least s.most)

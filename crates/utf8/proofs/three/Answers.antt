@@ -16,4 +16,4 @@ returns-then-text-at-lt3 c = no_char c.args.text.now c.args.at (λ r.
     ])
 
 pub returns : goal.returns
-returns c = from_checked _ _ c.from-u32.result (begins_three c.args.text.now c.args.at (omega arith) (omega arith) (omega arith) (c.second.ensures.0 c.if-not-second.false) (c.further.ensures.0 c.if-not-further.false)) c.from-u32.ensures.value
+returns c = from_checked _ _ c.from_u32.result (begins_three c.args.text.now c.args.at (omega arith) (omega arith) (omega arith) (c.second.ensures.0 c.if-not-second.false) (c.further.ensures.0 c.if-not-further.false)) c.from_u32.ensures.value

@@ -19,8 +19,8 @@ loop-at-preserved c =
     let bs = c.args.text.now in
     let at = c.loop-at.at in
     let b : Begins (drop at bs) c.in-Some.c = c.in-Some.ensures in
-    let n = at + c.len-utf8-at.result in
-    let e = c.len-utf8-at.ensures.value in (
+    let n = at + c.len_utf8-at.result in
+    let e = c.len_utf8-at.ensures.value in (
       omega (arith, length-drop at bs, b.fits),
       λ u. rw e (text_past bs at c.in-Some.c b (c.loop-at.invariant.1 u)),
       λ u. c.loop-at.invariant.2 (text_back bs at c.in-Some.c b (rw e at u)),

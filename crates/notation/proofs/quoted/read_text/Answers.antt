@@ -26,7 +26,7 @@ loop-at-preserved c =
     let more = body_more c.args.from.now c.loop-at.at c.loop-at-test.true c.if-from-at-ne34.true c.in-Some.spelling.byte c.in-Some.spelling.size some bounds.0 in
     let left = body_of 0 (drop (c.loop-at.at + c.in-Some.spelling.size) c.args.from.now) in
     let read = sym (ap (behind (vec_items c.loop-at.bytes)) more) ∙ c.loop-at.invariant.1 in
-    (omega (arith, ap length rest), rw (c.in-ok-push.ensures.items, behind_more (vec_items c.loop-at.bytes) c.in-Some.spelling.byte left) read)
+    (omega (arith, ap length rest), rw (c.in_ok-push.ensures.items, behind_more (vec_items c.loop-at.bytes) c.in-Some.spelling.byte left) read)
 
 pub returns-then-at-from : goal.returns-then-at-from
 returns-then-at-from c =

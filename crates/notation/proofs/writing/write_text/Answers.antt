@@ -19,11 +19,11 @@ pub loop-byte-preserved : goal.loop-byte-preserved
 loop-byte-preserved c =
     let one = take_more c.args.bytes.now c.loop-byte.byte-index 0 c.loop-byte-test.true in
     let on = flat_map_more spelled (string_bytes c.push.new.self) (take c.loop-byte.byte-index c.args.bytes.now) (get_or c.args.bytes.now c.loop-byte.byte-index 0) in
-    let here = c.in-ok-write-byte.ensures in
+    let here = c.in_ok-write_byte.ensures in
     cc
 
 pub returns : goal.returns
 unfolding written
 returns c =
     let all = take_all c.loop-byte.byte-index c.args.bytes.now (omega arith) in
-    record { written = search (rules, append_assoc); read_back = back c.args.bytes.now c.type-inv.bytes }
+    record { written = search (rules, append_assoc); read_back = back c.args.bytes.now c.ok.bytes }
