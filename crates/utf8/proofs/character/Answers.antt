@@ -16,9 +16,9 @@ returns-in-0 c =
     let o = at_ones _ 0 (omega (arith, c.type_inv.text c.args.at)) (sym c.in-0.is ∙ c.leading_ones.ensures) 8 (omega arith) in
     begins_one c.args.text.now c.args.at (omega arith) (omega arith)
 
-pub returns-in-default : goal.returns-in-default
-returns-in-default c =
+pub returns-in_default : goal.returns-in_default
+returns-in_default c =
     let b : ℕ = get_or c.args.text.now c.args.at 0 in
     let byte : b < 256 = omega (arith, c.type_inv.text c.args.at) in
-    let o = other_ones b c.leading-ones.result byte c.leading-ones.ensures (λ e. omega arith) (λ e. omega arith) (λ e. omega arith) (λ e. omega arith) in
+    let o = other_ones b c.leading_ones.result byte c.leading_ones.ensures (λ e. omega arith) (λ e. omega arith) (λ e. omega arith) (λ e. omega arith) in
     no_char c.args.text.now c.args.at (λ r. let s = (r.second o.0).1 in o.1 s.least s.most)

@@ -7,11 +7,11 @@ use Rattle.utf8.specs.Characters.{Begins}
 use Rattle.utf8.proofs.Texts.{not_text, text_past, text_back, text_end}
 use Rattle.utf8.proofs.well_formed.Goals as goal
 
-pub returns-in-default : goal.returns-in-default
-returns-in-default c =
+pub returns-in_default : goal.returns-in_default
+returns-in_default c =
     let bs = c.args.text.now in
     let at = c.loop-at.at in
-    let is = same_from_decides false (well_formed bs) (λ e. absurd (false≢true e), λ u. absurd (not_text (drop at bs) (omega (arith, length-drop at bs)) c.in-default.ensures (c.loop-at.invariant.1 u))) (test_decides_utf8 bs) in
+    let is = same_from_decides false (well_formed bs) (λ e. absurd (false≢true e), λ u. absurd (not_text (drop at bs) (omega (arith, length-drop at bs)) c.in_default.ensures (c.loop-at.invariant.1 u))) (test_decides_utf8 bs) in
     record { test = is; decides = test_decides_utf8; table = table_is_utf8 }
 
 pub loop-at-preserved : goal.loop-at-preserved

@@ -5,17 +5,17 @@ use Rattle.notation.proofs.Bodies.{behind, behind_more, body_end, body_closed, b
 use Rattle.notation.proofs.quoted.read_text.Goals as goal
 use Rattle.notation.proofs.quoted.read_text.Goals.{then-loop-at-test+else-from-at-ne34, else-loop-at-test}
 
-pub returns-then-is-empty : goal.returns-then-is-empty
+pub returns-then-is_empty : goal.returns-then-is_empty
 unfolding text_of
-returns-then-is-empty c = search rules
+returns-then-is_empty c = search rules
 
 pub loop-at-init : goal.loop-at-init
 unfolding text_of
 loop-at-init c = search rules
 
-pub returns-in-default : goal.returns-in-default
-returns-in-default c =
-    let none = ap spelling_of (sym (take_rest c.args.from.now c.loop-at.at)) ∙ sym c.in-default.ensures.value in
+pub returns-in_default : goal.returns-in_default
+returns-in_default c =
+    let none = ap spelling_of (sym (take_rest c.args.from.now c.loop-at.at)) ∙ sym c.in_default.ensures.value in
     sym (ap (behind (vec_items c.loop-at.bytes)) (body_ill c.args.from.now c.loop-at.at c.loop-at-test.true c.if-from-at-ne34.true none)) ∙ c.loop-at.invariant.1
 
 pub loop-at-preserved : goal.loop-at-preserved

@@ -9,11 +9,11 @@ use Rattle.notation.proofs.writing.write_text.Goals as goal
 back : (bs : List ℕ) → ((i : ℕ) → Fits w8 (get_or bs i 0)) → (rest : List ℕ) → text_of (written bs ++ rest) ≡ Some (bs, rest)
 back bs fit rest = read_back bs rest (All-from_get_or (λ b. b < 256) bs 0 (λ i _. omega (arith, fit i)))
 
-pub returns-in-err-push : goal.returns-in-err-push
-returns-in-err-push c = record { written = search rules; read_back = back c.args.bytes.now c.type-inv.bytes }
+pub returns-in_err-push : goal.returns-in_err-push
+returns-in_err-push c = record { written = search rules; read_back = back c.args.bytes.now c.type_inv.bytes }
 
-pub returns-in-err-write-byte : goal.returns-in-err-write-byte
-returns-in-err-write-byte c = record { written = search rules; read_back = back c.args.bytes.now c.type-inv.bytes }
+pub returns-in_err-write_byte : goal.returns-in_err-write_byte
+returns-in_err-write_byte c = record { written = search rules; read_back = back c.args.bytes.now c.type_inv.bytes }
 
 pub loop-byte-preserved : goal.loop-byte-preserved
 loop-byte-preserved c =

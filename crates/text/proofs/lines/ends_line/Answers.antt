@@ -11,8 +11,8 @@ returns-then-at-text c = sym (at_drop_all ends_at c.args.text.now c.args.at c.if
 pub returns-in-10 : goal.returns-in-10
 returns-in-10 c = let e = ends_by c.args.text.now c.args.at (omega arith) in grind (arith, nat_tests, e)
 
-pub returns-in-default : goal.returns-in-default
-returns-in-default c = let e = ends_by c.args.text.now c.args.at (omega arith) in grind (arith, nat_tests, e)
+pub returns-in_default : goal.returns-in_default
+returns-in_default c = let e = ends_by c.args.text.now c.args.at (omega arith) in grind (arith, nat_tests, e)
 
 pub returns-then-at-text-2 : goal.returns-then-at-text-2
 returns-then-at-text-2 c =

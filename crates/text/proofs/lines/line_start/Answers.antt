@@ -2,7 +2,7 @@ use Rattle.std.proofs.Common.{◌≡◌, ℕ, ◌+◌, ◌-◌, cond, drop, sym,
 use Rattle.text.specs.Lines.{ahead, start_of}
 use Rattle.text.proofs.Counting.{ahead_none, ahead_here, ends_here, start_more, start_none}
 use Rattle.text.proofs.lines.line_start.Goals as goal
-use Rattle.text.proofs.lines.line_start.Goals.{then-ends-line, else-ends-line}
+use Rattle.text.proofs.lines.line_start.Goals.{then-ends_line, else-ends_line}
 
 pub loop-left-init : goal.loop-left-init
 loop-left-init c = (omega arith, ahead_none _)
@@ -17,13 +17,13 @@ loop-left-preserved c =
     let t = c.args.text.now in
     let n = c.loop-left.left in
     let at = c.loop-left.at in
-    let left : c.if-ends-line.left ≡ cond c.ends-line.result (n - 1) n =
-    elim c.if-ends-line.branch [
-      | then-ends-line w ↦ grind (arith, w.left-is, w.if-ends-line.true)
-      | else-ends-line w ↦ grind (arith, w.left-is, w.if-ends-line.false)
+    let left : c.if-ends_line.left ≡ cond c.ends_line.result (n - 1) n =
+    elim c.if-ends_line.branch [
+      | then-ends_line w ↦ grind (arith, w.left-is, w.if-ends_line.true)
+      | else-ends_line w ↦ grind (arith, w.left-is, w.if-ends_line.false)
     ] in
-    let step : ahead (at + 1) (start_of (drop (at + 1) t) c.if-ends-line.left) ≡ ahead at (start_of (drop at t) n) =
-    ap (λ (m : ℕ). ahead (at + 1) (start_of (drop (at + 1) t) m)) (left ∙ ap (λ b. cond b (n - 1) n) (c.ends-line.ensures ∙ ends_here t at (omega arith))) ∙ sym (start_more t at n (omega arith) (omega arith)) in
+    let step : ahead (at + 1) (start_of (drop (at + 1) t) c.if-ends_line.left) ≡ ahead at (start_of (drop at t) n) =
+    ap (λ (m : ℕ). ahead (at + 1) (start_of (drop (at + 1) t) m)) (left ∙ ap (λ b. cond b (n - 1) n) (c.ends_line.ensures ∙ ends_here t at (omega arith))) ∙ sym (start_more t at n (omega arith) (omega arith)) in
     (omega arith, step ∙ c.loop-left.invariant.1)
 
 pub returns : goal.returns

@@ -13,10 +13,10 @@ returns g c =
       characters = units_are_of_characters;
     }
 
-pub returns-in-default : goal.returns-in-default
-returns-in-default g c =
+pub returns-in_default : goal.returns-in_default
+returns-in_default g c =
     record {
-      column = cut_no_line (g.E.PositionEncoding.units c.args.encoding.now) c.args.text.now c.args.position c.in-default.ensures;
+      column = cut_no_line (g.E.PositionEncoding.units c.args.encoding.now) c.args.text.now c.args.position c.in_default.ensures;
       place = cut_positions_keep_their_place;
       characters = units_are_of_characters;
     }

@@ -7,27 +7,27 @@ walk-requires g c =
 
 pub walk-requires-2 : goal.walk-requires-2
 walk-requires-2 g c =
-    line_within (g.E.PositionEncoding.units c.args.encoding.now) c.args.text.now c.args.range.end c.in-Some-line-start.last.0 c.in-Some-line-start.ensures
+    line_within (g.E.PositionEncoding.units c.args.encoding.now) c.args.text.now c.args.range.end c.in-Some-line_start.last.0 c.in-Some-line_start.ensures
 
-pub returns-in-default-walk : goal.returns-in-default-walk
-returns-in-default-walk g c =
+pub returns-in_default-walk : goal.returns-in_default-walk
+returns-in_default-walk g c =
     let u = g.E.PositionEncoding.units c.args.encoding.now in
     let t = c.args.text.now in
     let r = c.args.range in
     let m = c.in-Some.first.0 in
-    let n = c.in-Some-line-start.last.0 in
-    range_inside_start u t r (line_there u t r.start m c.in-Some.ensures) (line_there u t r.end n c.in-Some-line-start.ensures)
-    (stuck u t r.start m c.in-Some.ensures c.in-default-walk.ensures)
+    let n = c.in-Some-line_start.last.0 in
+    range_inside_start u t r (line_there u t r.start m c.in-Some.ensures) (line_there u t r.end n c.in-Some-line_start.ensures)
+    (stuck u t r.start m c.in-Some.ensures c.in_default-walk.ensures)
 
-pub returns-in-default-walk-2 : goal.returns-in-default-walk-2
-returns-in-default-walk-2 g c =
+pub returns-in_default-walk-2 : goal.returns-in_default-walk-2
+returns-in_default-walk-2 g c =
     let u = g.E.PositionEncoding.units c.args.encoding.now in
     let t = c.args.text.now in
     let r = c.args.range in
-    let n = c.in-Some-line-start.last.0 in
+    let n = c.in-Some-line_start.last.0 in
     let s = placed u t r.start c.in-Some.first.0 c.in-Some.ensures c.in-Some-walk.start.0 c.in-Some-walk.ensures in
-    range_inside_end u t r s.there (line_there u t r.end n c.in-Some-line-start.ensures) s.outside
-    (stuck u t r.end n c.in-Some-line-start.ensures c.in-default-walk-2.ensures)
+    range_inside_end u t r s.there (line_there u t r.end n c.in-Some-line_start.ensures) s.outside
+    (stuck u t r.end n c.in-Some-line_start.ensures c.in_default-walk-2.ensures)
 
 pub returns-then-end-start : goal.returns-then-end-start
 returns-then-end-start g c =
@@ -37,7 +37,7 @@ returns-then-end-start g c =
     let m = c.in-Some-walk.start.0 in
     let n = c.in-Some-walk-2.end.0 in
     range_back u t r m n (placed u t r.start c.in-Some.first.0 c.in-Some.ensures m c.in-Some-walk.ensures)
-    (placed u t r.end c.in-Some-line-start.last.0 c.in-Some-line-start.ensures n c.in-Some-walk-2.ensures) c.if-end-start.true
+    (placed u t r.end c.in-Some-line_start.last.0 c.in-Some-line_start.ensures n c.in-Some-walk-2.ensures) c.if-end-start.true
 
 pub returns : goal.returns
 returns g c =
@@ -47,4 +47,4 @@ returns g c =
     let m = c.in-Some-walk.start.0 in
     let n = c.in-Some-walk-2.end.0 in
     range_placed u t r m n (placed u t r.start c.in-Some.first.0 c.in-Some.ensures m c.in-Some-walk.ensures)
-    (placed u t r.end c.in-Some-line-start.last.0 c.in-Some-line-start.ensures n c.in-Some-walk-2.ensures) c.if-end-start.false
+    (placed u t r.end c.in-Some-line_start.last.0 c.in-Some-line_start.ensures n c.in-Some-walk-2.ensures) c.if-end-start.false

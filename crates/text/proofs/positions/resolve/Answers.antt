@@ -2,10 +2,10 @@ use Rattle.text.proofs.Placing.{line_there, line_within, stuck, placed, resolve_
 use Rattle.text.proofs.Lawful.{places_lie_between_characters, places_count_their_column, inside_means_no_such_column}
 use Rattle.text.proofs.positions.resolve.Goals as goal
 
-pub returns-in-default : goal.returns-in-default
-returns-in-default g c =
+pub returns-in_default : goal.returns-in_default
+returns-in_default g c =
     record {
-      place = resolve_no_line (g.E.PositionEncoding.units c.args.encoding.now) c.args.text.now c.args.position c.in-default.ensures;
+      place = resolve_no_line (g.E.PositionEncoding.units c.args.encoding.now) c.args.text.now c.args.position c.in_default.ensures;
       between = places_lie_between_characters;
       column = places_count_their_column;
       inner = inside_means_no_such_column;
@@ -14,14 +14,14 @@ returns-in-default g c =
 pub walk-requires : goal.walk-requires
 walk-requires g c = line_within (g.E.PositionEncoding.units c.args.encoding.now) c.args.text.now c.args.position c.in-Some.start.0 c.in-Some.ensures
 
-pub returns-in-default-walk : goal.returns-in-default-walk
-returns-in-default-walk g c =
+pub returns-in_default-walk : goal.returns-in_default-walk
+returns-in_default-walk g c =
     let u = g.E.PositionEncoding.units c.args.encoding.now in
     let t = c.args.text.now in
     let p = c.args.position in
     let s = c.in-Some.start.0 in
     record {
-      place = resolve_inside u t p (line_there u t p s c.in-Some.ensures) (stuck u t p s c.in-Some.ensures c.in-default-walk.ensures);
+      place = resolve_inside u t p (line_there u t p s c.in-Some.ensures) (stuck u t p s c.in-Some.ensures c.in_default-walk.ensures);
       between = places_lie_between_characters;
       column = places_count_their_column;
       inner = inside_means_no_such_column;

@@ -8,4 +8,4 @@ returns-in-None g c = ap (counted (g.E.PositionEncoding.units c.args.encoding.no
 
 pub returns-in-Some : goal.returns-in-Some
 unfolding wide
-returns-in-Some g c = c.units-of.ensures ∙ ap (counted (g.E.PositionEncoding.units c.args.encoding.now)) c.in-Some.ensures.scalar
+returns-in-Some g c = c.units_of.ensures ∙ ap (counted (g.E.PositionEncoding.units c.args.encoding.now)) c.in-Some.ensures.scalar

@@ -18,7 +18,7 @@ pub put-decimal-after-requires : goal.put-decimal-after-requires
 put-decimal-after-requires t c = search (rules, one_more)
 
 pub put-bytes-requires-2 : goal.put-bytes-requires-2
-put-bytes-requires-2 t c = omega (arith, one_more c.args.n (omega arith) (omega arith), c.put-decimal-after.auto.out)
+put-bytes-requires-2 t c = omega (arith, one_more c.args.n (omega arith) (omega arith), c.put_decimal-after.auto.out)
 
 pub returns : goal.returns
 returns t c =
@@ -30,7 +30,7 @@ returns t c =
     record {
       next = omega (arith, one_more n (omega arith) (omega arith));
       bytes =
-          c.put-bytes-2.ensures.bytes ∙ ap (λ l. over l c.put-decimal-after.result last) c.put-decimal-after.ensures.bytes
-          ∙ over_over out (decimal (n / 10)) last at c.put-decimal-after.result (omega arith) c.put-decimal-after.ensures.next
+          c.put_bytes-2.ensures.bytes ∙ ap (λ l. over l c.put_decimal-after.result last) c.put_decimal-after.ensures.bytes
+          ∙ over_over out (decimal (n / 10)) last at c.put_decimal-after.result (omega arith) c.put_decimal-after.ensures.next
           ∙ ap (over out at) (sym split);
     }

@@ -11,7 +11,7 @@ loop-at-preserved c =
     let at = c.loop-at.at in
     let n = c.loop-at.size in
     let b = get_or bs at 0 in
-    let digit = sym c.if-not-is-ascii-digit.ensures.value in
+    let digit = sym c.if-not-is_ascii_digit.ensures.value in
     let rest = digits_of (21 - (at + 1)) (drop (at + 1) bs) in
     let step = ap (digits_value_after 10 n) (digits_more bs at (21 - at) (21 - (at + 1)) (omega arith) (omega arith) digit) in
     let value = digit_value b digit in
@@ -22,9 +22,9 @@ pub returns-else-at-frame : goal.returns-else-at-frame
 returns-else-at-frame c =
     sym (ap (digits_value_after 10 c.loop-at.size) (digits_end c.args.frame.now c.loop-at.at (21 - c.loop-at.at) (omega arith))) ∙ c.loop-at.invariant.0
 
-pub returns-then-not-is-ascii-digit : goal.returns-then-not-is-ascii-digit
-returns-then-not-is-ascii-digit c =
-    sym (ap (digits_value_after 10 c.loop-at.size) (digits_stop c.args.frame.now c.loop-at.at (21 - c.loop-at.at) (omega arith) (sym c.if-not-is-ascii-digit.ensures.value))) ∙ c.loop-at.invariant.0
+pub returns-then-not-is_ascii_digit : goal.returns-then-not-is_ascii_digit
+returns-then-not-is_ascii_digit c =
+    sym (ap (digits_value_after 10 c.loop-at.size) (digits_stop c.args.frame.now c.loop-at.at (21 - c.loop-at.at) (omega arith) (sym c.if-not-is_ascii_digit.ensures.value))) ∙ c.loop-at.invariant.0
 
 pub returns-after-loop-at : goal.returns-after-loop-at
 returns-after-loop-at c =

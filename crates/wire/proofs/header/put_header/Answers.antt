@@ -5,11 +5,11 @@ use Rattle.wire.specs.Words.{over}
 use Rattle.wire.proofs.Overs.{over_over}
 use Rattle.wire.proofs.header.put_header.Goals as goal
 
-pub put-decimal-b-requires : goal.put-decimal-b-requires
-put-decimal-b-requires c = omega (arith, length-decimal-le 5 c.args.n (omega arith) (omega arith) (omega arith), c.put-bytes-a.auto.out)
+pub put_decimal-b-requires : goal.put_decimal-b-requires
+put_decimal-b-requires c = omega (arith, length-decimal-le 5 c.args.n (omega arith) (omega arith) (omega arith), c.put_bytes-a.auto.out)
 
-pub put-bytes-requires : goal.put-bytes-requires
-put-bytes-requires c = omega (arith, length-decimal-le 5 c.args.n (omega arith) (omega arith) (omega arith), c.put-bytes-a.auto.out, c.put-decimal-b.auto.out)
+pub put_bytes-requires : goal.put_bytes-requires
+put_bytes-requires c = omega (arith, length-decimal-le 5 c.args.n (omega arith) (omega arith) (omega arith), c.put_bytes-a.auto.out, c.put_decimal-b.auto.out)
 
 pub returns : goal.returns
 unfolding heading
@@ -22,8 +22,8 @@ returns c =
       within = omega arith;
       next = omega (arith, size);
       bytes =
-          c.put-bytes.ensures.bytes ∙ ap (λ l. over l c.put-decimal-b.result ending) (c.put-decimal-b.ensures.bytes ∙ ap (λ l. over l c.put-bytes-a.result (decimal n)) c.put-bytes-a.ensures.bytes
-          ∙ over_over out label (decimal n) 0 c.put-bytes-a.result (omega arith) c.put-bytes-a.ensures.next)
-          ∙ over_over out (label ++ decimal n) ending 0 c.put-decimal-b.result (omega arith) (omega (arith, length-append label (decimal n)))
+          c.put_bytes.ensures.bytes ∙ ap (λ l. over l c.put_decimal-b.result ending) (c.put_decimal-b.ensures.bytes ∙ ap (λ l. over l c.put_bytes-a.result (decimal n)) c.put_bytes-a.ensures.bytes
+          ∙ over_over out label (decimal n) 0 c.put_bytes-a.result (omega arith) c.put_bytes-a.ensures.next)
+          ∙ over_over out (label ++ decimal n) ending 0 c.put_decimal-b.result (omega arith) (omega (arith, length-append label (decimal n)))
           ∙ ap (over out 0) (append_assoc label (decimal n) ending);
     }

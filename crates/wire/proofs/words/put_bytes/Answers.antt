@@ -11,5 +11,5 @@ behind out new at =
 
 pub returns : goal.returns
 returns c =
-    let wrote = c.copy-from-slice.ensures.after in
+    let wrote = c.copy_from_slice.ensures.after in
     record { next = refl; bytes = simp wrote (behind c.args.out.now c.args.bytes.now c.args.at) }
