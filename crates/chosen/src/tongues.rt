@@ -50,7 +50,7 @@ fn code_in<L: Language>(
     text: &[u8],
     list: &mut [u32],
 ) -> Result<usize, Refusal>
-    ensures { outcome (leaves list.new) result list.new ≡ code_rule (units_of encoding) (next language.now) text.now list.old }
+    ensures { outcome (leaves list.new) result list.new ≡ code_rule (units_of encoding) (L.next language.now) text.now list.old }
 {
     match encoding {
         Encoding::Utf8 => code(language, &Utf8Units, text, list),

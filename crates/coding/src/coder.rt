@@ -60,10 +60,10 @@ fn gather<L: Language, E: PositionEncoding>(
     list: &mut [u32],
 ) -> usize
     requires text { IsText text.now }
-    requires few { length (tokens (L.Language.next language.now) text.now) ≤ 512 }
+    requires few { length (tokens (L.next language.now) text.now) ≤ 512 }
     requires room { 2560 ≤ length list.old }
-    ensures size { result ≡ length (fresh (units encoding.now) (L.Language.next language.now) text.now) }
-    ensures numbers { take result list.new ≡ fresh (units encoding.now) (L.Language.next language.now) text.now }
+    ensures size { result ≡ length (fresh (E.units encoding.now) (L.next language.now) text.now) }
+    ensures numbers { take result list.new ≡ fresh (E.units encoding.now) (L.next language.now) text.now }
 {
     let mut numbers = Growing::new(list);
     let mut cursor = Cursor {
@@ -102,7 +102,7 @@ pub fn code<L: Language, E: PositionEncoding>(
     text: &[u8],
     list: &mut [u32],
 ) -> Result<usize, Refusal>
-    ensures code { outcome (leaves list.new) result list.new ≡ code_rule (units encoding.now) (L.Language.next language.now) text.now list.old }
+    ensures code { outcome (leaves list.new) result list.new ≡ code_rule (E.units encoding.now) (L.next language.now) text.now list.old }
     ensures order { TokensAreInOrder }
     ensures words { FreshCodingsFitWords }
     ensures first { FirstTokensCodeFirst }

@@ -28,7 +28,7 @@ pub(crate) fn advance<E: PositionEncoding>(
     requires narrow { from.column ≤ 4 * from.«at» }
     ensures at { result.«at» ≡ to }
     ensures line { result.line ≡ from.line + line_of (drop from.«at» text.now) (to - from.«at») }
-    ensures column { result.column ≡ column_of (units encoding.now) (drop from.«at» text.now) (to - from.«at») from.column }
+    ensures column { result.column ≡ column_of (E.units encoding.now) (drop from.«at» text.now) (to - from.«at») from.column }
     ensures low { result.line ≤ to }
     ensures narrow { result.column ≤ 4 * to }
 {

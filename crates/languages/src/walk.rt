@@ -11,8 +11,8 @@ use text::places::Place;
 
 // The next token from a place on, with what the laws say of a text's: it fits, and it is the first of those that are left.
 pub fn ask<L: Language>(language: &L, text: &[u8], from: Place) -> Option<Token>
-    ensures answer { result ≡ next language.now text.now from.0 }
-    ensures step { IsText text.now → MatchOption result (rest (next language.now) text.now from.0 ≡ []) (λ t. Step (next language.now) kinds text.now from.0 t) }
+    ensures answer { result ≡ L.next language.now text.now from.0 }
+    ensures step { IsText text.now → MatchOption result (rest (L.next language.now) text.now from.0 ≡ []) (λ t. Step (L.next language.now) L.kinds text.now from.0 t) }
 {
     language.next_token(text, from)
 }
@@ -20,7 +20,7 @@ pub fn ask<L: Language>(language: &L, text: &[u8], from: Place) -> Option<Token>
 // How many tokens a text has.
 fn count_in<L: Language>(language: &L, text: &[u8]) -> usize
     requires { IsText text.now }
-    ensures { result ≡ length (tokens (next language.now) text.now) }
+    ensures { result ≡ length (tokens (L.next language.now) text.now) }
 {
     let mut count = 0;
     let mut from = 0;
@@ -33,7 +33,7 @@ fn count_in<L: Language>(language: &L, text: &[u8]) -> usize
 
 // How many tokens the text has: 7 where they are too many, 8 where they are ill-formed.
 pub fn count_tokens<L: Language>(language: &L, text: &[u8]) -> Result<usize, Refusal>
-    ensures { outcome (λ n. n) result tt ≡ count_rule (next language.now) text.now }
+    ensures { outcome (λ n. n) result tt ≡ count_rule (L.next language.now) text.now }
 {
     text::changes::check(text)?;
     Ok(count_in(language, text))

@@ -2,6 +2,7 @@
 use Rattle.std.specs.Prelude.{◌≡◌, ℕ, ◌≤◌, true, cond, nat_lt}
 use Rattle.std.proofs.Math.Utf8.{scalar}
 use Rattle.std.specs.Char.{len_utf8}
+use Rattle.std.proofs.Common.{rules}
 
 -- what an encoding shows: every scalar value counts at least 1 unit and at most its stated largest, which is at most 4
 pub record Counts (units : ℕ → ℕ) (largest : ℕ) : Type 0 where
@@ -20,3 +21,12 @@ utf16_units c = cond (nat_lt c 0x10000) 1 2
 -- UTF-32 counts characters
 abbrev pub utf32_units : ℕ → ℕ
 utf32_units c = 1
+
+pub utf8_counts : Counts utf8_units 4
+utf8_counts = search rules
+
+pub utf16_counts : Counts utf16_units 2
+utf16_counts = search rules
+
+pub utf32_counts : Counts utf32_units 1
+utf32_counts = search rules

@@ -45,7 +45,7 @@ pub fn change<E: PositionEncoding>(
     range: Range,
     inserted: &[u8],
 ) -> Result<usize, Refusal>
-    ensures change { outcome (leaves memory.new) result memory.new ≡ change_rule (units encoding.now) memory.old length range inserted.now }
+    ensures change { outcome (leaves memory.new) result memory.new ≡ change_rule (E.units encoding.now) memory.old length range inserted.now }
     ensures texts { ChangesOfTextsAreTexts }
     ensures lines { EarlierLinesStay }
 {

@@ -1,7 +1,6 @@
 // Position encodings: the units that columns count.
 ghost use Rattle.std.specs.Prelude.{◌≡◌, ℕ};
-ghost use Rattle.text.specs.Units.{Counts, utf8_units, utf16_units, utf32_units};
-ghost use Rattle.std.proofs.Common.{rules};
+ghost use Rattle.text.specs.Units.{Counts, utf8_units, utf16_units, utf32_units, utf8_counts, utf16_counts, utf32_counts};
 
 // An encoding is a value that is asked for the units of a character; asking has no effect. Its meaning is `units`.
 // A clause cannot name an associated constant, so each is tied to a ghost member by a method that answers it.
@@ -44,7 +43,7 @@ impl PositionEncoding for Utf8Units {
 
     ghost units = { λ _. utf8_units };
 
-    ghost counts = { Prim.search rules };
+    ghost counts = { λ _. utf8_counts };
 
     fn units_of(&self, c: char) -> u32 {
         match c {
@@ -78,7 +77,7 @@ impl PositionEncoding for Utf16Units {
 
     ghost units = { λ _. utf16_units };
 
-    ghost counts = { Prim.search rules };
+    ghost counts = { λ _. utf16_counts };
 
     fn units_of(&self, c: char) -> u32 {
         if c < '\u{10000}' { 1 } else { 2 }
@@ -107,7 +106,7 @@ impl PositionEncoding for Utf32Units {
 
     ghost units = { λ _. utf32_units };
 
-    ghost counts = { Prim.search rules };
+    ghost counts = { λ _. utf32_counts };
 
     fn units_of(&self, _c: char) -> u32 {
         1

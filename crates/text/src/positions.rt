@@ -14,7 +14,7 @@ use utf8::scalar_at;
 
 // The units of the character that begins at the place, 0 where none does.
 pub fn units_at<E: PositionEncoding>(encoding: &E, text: &[u8], at: usize) -> u32
-    ensures { result ≡ wide (units encoding.now) (drop at text.now) }
+    ensures { result ≡ wide (E.units encoding.now) (drop at text.now) }
 {
     match scalar_at(text, at) {
         None => 0,
@@ -31,7 +31,7 @@ fn walk<E: PositionEncoding>(
     character: Column,
 ) -> Option<Place>
     requires { start.0 ≤ length text.now }
-    ensures { place_in result ≡ ahead start.0 (seek (units encoding.now) (drop start.0 text.now) character.0) }
+    ensures { place_in result ≡ ahead start.0 (seek (E.units encoding.now) (drop start.0 text.now) character.0) }
 {
     let mut left = character.0;
     let mut at = start.0;
@@ -58,7 +58,7 @@ pub fn resolve<E: PositionEncoding>(
     text: &[u8],
     position: Position,
 ) -> Result<Place, Refusal>
-    ensures place { outcome (λ p. p.0) result tt ≡ resolve_rule (units encoding.now) text.now position }
+    ensures place { outcome (λ p. p.0) result tt ≡ resolve_rule (E.units encoding.now) text.now position }
     ensures between { PlacesLieBetweenCharacters }
     ensures column { PlacesCountTheirColumn }
     ensures inner { InsideMeansNoSuchColumn }
@@ -75,7 +75,7 @@ pub fn resolve<E: PositionEncoding>(
 // The units of the content of the line that starts at the place, or `most` if there are more.
 fn measure<E: PositionEncoding>(encoding: &E, text: &[u8], start: Place, most: Column) -> Column
     requires { start.0 ≤ length text.now }
-    ensures { result.0 ≡ min most.0 (line_units (units encoding.now) (drop start.0 text.now)) }
+    ensures { result.0 ≡ min most.0 (line_units (E.units encoding.now) (drop start.0 text.now)) }
 {
     let mut left = most.0;
     let mut at = start.0;
@@ -95,7 +95,7 @@ pub fn cut<E: PositionEncoding>(
     text: &[u8],
     position: Position,
 ) -> Result<Column, Refusal>
-    ensures column { outcome (λ k. k.0) result tt ≡ cut_rule (units encoding.now) text.now position }
+    ensures column { outcome (λ k. k.0) result tt ≡ cut_rule (E.units encoding.now) text.now position }
     ensures place { CutPositionsKeepTheirPlace }
     ensures characters { UnitsAreOfCharacters }
 {
@@ -107,7 +107,7 @@ pub fn cut<E: PositionEncoding>(
 
 // The places of a range. Each number is tried over both positions before the next.
 pub fn places<E: PositionEncoding>(encoding: &E, text: &[u8], range: Range) -> Result<Span, Refusal>
-    ensures { outcome (λ s. (s.start.0, s.end.0)) result tt ≡ range_rule (units encoding.now) text.now range }
+    ensures { outcome (λ s. (s.start.0, s.end.0)) result tt ≡ range_rule (E.units encoding.now) text.now range }
 {
     let Some(first) = line_start(text, range.start.line) else {
         return Err(Refusal::NoLine);
