@@ -11,35 +11,35 @@ use Rattle.coding.proofs.coder.code.Goals as goal
 pub gather-requires : goal.gather-requires
 gather-requires g c =
     record {
-      text = checked_text c.args.text.now (counted_text (g.L.Language.next c.args.language.now) c.args.text.now c.in-ok-count.count c.in-ok-count.ensures);
-      few = omega (arith, counted (g.L.Language.next c.args.language.now) c.args.text.now c.in-ok-count.count c.in-ok-count.ensures, c.if-count-gt-TOKEN-LIMIT.false);
-      room = omega (arith, length-take-le 2560 c.args.list.now c.if-list-lt-LIST-LIMIT.false);
+      text = checked_text c.args.text.now (counted_text (g.L.Language.next c.args.language.now) c.args.text.now c.in_ok-count.count c.in_ok-count.ensures);
+      few = omega (arith, counted (g.L.Language.next c.args.language.now) c.args.text.now c.in_ok-count.count c.in_ok-count.ensures, c.if-count-gt-TOKEN_LIMIT.false);
+      room = omega (arith, length-take-le 2560 c.args.list.now c.if-list-lt-LIST_LIMIT.false);
     }
 
-pub returns-then-list-lt-LIST-LIMIT : goal.returns-then-list-lt-LIST-LIMIT
-returns-then-list-lt-LIST-LIMIT g c =
+pub returns-then-list-lt-LIST_LIMIT : goal.returns-then-list-lt-LIST_LIMIT
+returns-then-list-lt-LIST_LIMIT g c =
     let u = g.E.PositionEncoding.units c.args.encoding.now in
     let next = g.L.Language.next c.args.language.now in
-    record { code = short_list u next c.args.text.now c.args.list.now c.if-list-lt-LIST-LIMIT.true; order = tokens_are_in_order; words = fresh_codings_fit_words; first = first_tokens_code_first }
+    record { code = short_list u next c.args.text.now c.args.list.now c.if-list-lt-LIST_LIMIT.true; order = tokens_are_in_order; words = fresh_codings_fit_words; first = first_tokens_code_first }
 
-pub returns-in-err-count : goal.returns-in-err-count
-returns-in-err-count g c =
+pub returns-in_err-count : goal.returns-in_err-count
+returns-in_err-count g c =
     let u = g.E.PositionEncoding.units c.args.encoding.now in
     let next = g.L.Language.next c.args.language.now in
-    let p = err_from_is_err_and c.from-residual.result c.from-residual.ensures.1 in
+    let p = err_from_is_err_and c.from_residual.result c.from_residual.ensures.1 in
     record {
-      code = rw (p.1, p.2) (bad_text u next c.args.text.now c.args.list.now c.if-list-lt-LIST-LIMIT.false _ (uncounted next c.args.text.now _ c.in-err-count.ensures));
+      code = rw (p.1, p.2) (bad_text u next c.args.text.now c.args.list.now c.if-list-lt-LIST_LIMIT.false _ (uncounted next c.args.text.now _ c.in_err-count.ensures));
       order = tokens_are_in_order;
       words = fresh_codings_fit_words;
       first = first_tokens_code_first;
     }
 
-pub returns-then-count-gt-TOKEN-LIMIT : goal.returns-then-count-gt-TOKEN-LIMIT
-returns-then-count-gt-TOKEN-LIMIT g c =
+pub returns-then-count-gt-TOKEN_LIMIT : goal.returns-then-count-gt-TOKEN_LIMIT
+returns-then-count-gt-TOKEN_LIMIT g c =
     let u = g.E.PositionEncoding.units c.args.encoding.now in
     let next = g.L.Language.next c.args.language.now in
     record {
-      code = too_many u next c.args.text.now c.args.list.now c.if-list-lt-LIST-LIMIT.false (counted_text (g.L.Language.next c.args.language.now) c.args.text.now c.in-ok-count.count c.in-ok-count.ensures) (omega (arith, counted next c.args.text.now c.in-ok-count.count c.in-ok-count.ensures, c.if-count-gt-TOKEN-LIMIT.true));
+      code = too_many u next c.args.text.now c.args.list.now c.if-list-lt-LIST_LIMIT.false (counted_text (g.L.Language.next c.args.language.now) c.args.text.now c.in_ok-count.count c.in_ok-count.ensures) (omega (arith, counted next c.args.text.now c.in_ok-count.count c.in_ok-count.ensures, c.if-count-gt-TOKEN_LIMIT.true));
       order = tokens_are_in_order;
       words = fresh_codings_fit_words;
       first = first_tokens_code_first;
@@ -51,12 +51,12 @@ returns g c =
     let next = g.L.Language.next c.args.language.now in
     let t = c.args.text.now in
     let list = c.args.list.now in
-    let room = c.if-list-lt-LIST-LIMIT.false in
-    let count = counted next t c.in-ok-count.count c.in-ok-count.ensures in
-    let few = c.if-count-gt-TOKEN-LIMIT.false in
+    let room = c.if-list-lt-LIST_LIMIT.false in
+    let count = counted next t c.in_ok-count.count c.in_ok-count.ensures in
+    let few = c.if-count-gt-TOKEN_LIMIT.false in
     let long = c.gather.auto.list ∙ length-take-le 2560 list room in
     record {
-      code = coded u next t list room (counted_text (g.L.Language.next c.args.language.now) c.args.text.now c.in-ok-count.count c.in-ok-count.ensures) (omega (arith, count, few)) c.gather.result c.gather.new.list long
+      code = coded u next t list room (counted_text (g.L.Language.next c.args.language.now) c.args.text.now c.in_ok-count.count c.in_ok-count.ensures) (omega (arith, count, few)) c.gather.result c.gather.new.list long
           (omega (arith, fresh_length u next t, count, few, c.gather.ensures.size)) c.gather.ensures.size c.gather.ensures.numbers;
       order = tokens_are_in_order;
       words = fresh_codings_fit_words;

@@ -26,7 +26,7 @@ loop-token-preserved g c =
     let line : s.line ≡ line_of t p = c.advance-start.ensures.line ∙ ap (λ (n : ℕ). n + line_of (drop at t) (p - at)) inv.4 ∙ line_to t at p f.start in
     let column : s.column ≡ column_of u t p 0 =
     c.advance-start.ensures.column ∙ ap (column_of u (drop at t) (p - at)) inv.5 ∙ column_to t at p f.start u 0 in
-    let h = c.in-default-put.ensures in
+    let h = c.in_default-put.ensures in
     let n = k.length in
     let q = s.at in
     let sa : q ≡ p = c.advance-start.ensures.at in
@@ -41,11 +41,11 @@ loop-token-preserved g c =
     let b = c.loop-token.before in
     let old = take c.loop-token.numbers.used c.loop-token.numbers.slots.now in
     let so_far = sym (ap (λ r. old ++ code b.line b.column (map (placed u t) r)) step.first) ∙ inv.2 in
-    let coded = coded_more old _ _ _ _ _ _ _ b.line b.column x xs h.items (c.saturating-sub-lines.ensures ∙ ap (λ (m : ℕ). m - b.line) line)
-    (c.column-from-columns.ensures ∙ (λ i. cond (eqb (line i) b.line) (column i - b.column) (column i))) (omega (arith, units)) refl refl so_far in
+    let coded = coded_more old _ _ _ _ _ _ _ b.line b.column x xs h.items (c.saturating_sub-lines.ensures ∙ ap (λ (m : ℕ). m - b.line) line)
+    (c.column_from-columns.ensures ∙ (λ i. cond (eqb (line i) b.line) (column i - b.column) (column i))) (omega (arith, units)) refl refl so_far in
     let now-list = take c.put.new.numbers.used c.put.new.numbers.slots.now in (
-      h.slots-name ∙ inv.0,
-      h.kept-length ∙ inv.1,
+      h.slots_name ∙ inv.0,
+      h.kept_length ∙ inv.1,
       (λ i. now-list ++ code (line i) (column i) (map (placed u t) (rest next t (there i)))) ∙ coded,
       omega (arith, h.used, ap length step.first, ap (λ (m : ℕ). length (rest next t m)) there),
       end_line,
@@ -55,8 +55,8 @@ loop-token-preserved g c =
       omega (arith, there, f.inside),
     )
 
-pub overflow-sub-units : goal.overflow-sub-units
-overflow-sub-units g c =
+pub overflow_sub-units : goal.overflow_sub-units
+overflow_sub-units g c =
     let u = g.E.PositionEncoding.units c.args.encoding.now in
     let t = c.args.text.now in
     let k = c.in-Some.token in
@@ -80,7 +80,7 @@ returns g c =
     let next = g.L.Language.next c.args.language.now in
     let inv = c.loop-token.invariant in
     let b = c.loop-token.before in
-    let done = c.in-default.ensures.step c.requires.text in
+    let done = c.in_default.ensures.step c.requires.text in
     let list = take c.loop-token.numbers.used c.loop-token.numbers.slots.now in
     let all = sym (append-nil list) ∙ ap (λ r. list ++ code b.line b.column (map (placed u t) r)) (sym done) ∙ inv.2 in
     let xs = map (placed u t) (rest next t 0) in

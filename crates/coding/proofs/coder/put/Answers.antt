@@ -8,14 +8,14 @@ five r s t u v w a b c d e p q x y z = simp (z, y, x, q, p, append_assoc)
 
 pub returns : goal.returns
 returns c =
-    let p = c.in-ok-push.ensures in
-    let q = c.in-ok-push-2.ensures in
-    let x = c.in-ok-push-3.ensures in
-    let y = c.in-ok-push-4.ensures in
-    let z = c.in-ok-push-5.ensures in
+    let p = c.in_ok-push.ensures in
+    let q = c.in_ok-push-2.ensures in
+    let x = c.in_ok-push-3.ensures in
+    let y = c.in_ok-push-4.ensures in
+    let z = c.in_ok-push-5.ensures in
     record {
       items = five _ _ _ _ _ _ _ _ _ _ _ p.items q.items x.items y.items z.items;
       used = search rules;
       kept_length = search rules;
-      slots-name = search rules;
+      slots_name = search rules;
     }

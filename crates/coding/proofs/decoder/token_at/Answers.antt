@@ -9,7 +9,7 @@ returns-then-left-eq0 c =
     let list = c.args.list.now in
     let inv = c.loop-at.invariant in
     record {
-      token = found list c.loop-at.at c.loop-at.line c.loop-at.column _ _ (omega arith) (omega arith) refl c.column-after-column.ensures c.loop-at.left c.if-left-eq0.true ∙ inv.0;
+      token = found list c.loop-at.at c.loop-at.line c.loop-at.column _ _ (omega arith) (omega arith) refl c.column_after-column.ensures c.loop-at.left c.if-left-eq0.true ∙ inv.0;
       back = decoding_undoes_coding;
     }
 
@@ -18,10 +18,10 @@ loop-at-preserved c =
     let list = c.args.list.now in
     let inv = c.loop-at.invariant in
     let at = c.loop-at.at in
-    let fits = c.type-inv.list at in
-    let fits₂ = c.type-inv.list (at + 1) in
-    let e = c.column-after-column.ensures in
-    let small : c.column-after-column.result ≤ (at + 5) * 2 ^ 32 =
+    let fits = c.type_inv.list at in
+    let fits₂ = c.type_inv.list (at + 1) in
+    let e = c.column_after-column.ensures in
+    let small : c.column_after-column.result ≤ (at + 5) * 2 ^ 32 =
     subst (λ n. n ≤ (at + 5) * 2 ^ 32) (sym e) (cond_both {A = ℕ} (eqb (get_or list at 0) 0) (c.loop-at.column + get_or list (at + 1) 0) (get_or list (at + 1) 0) (λ n. n ≤ (at + 5) * 2 ^ 32) (λ _. omega arith) (λ _. omega arith)) in
     (further list at c.loop-at.line c.loop-at.column _ _ (omega arith) (omega arith) refl e c.loop-at.left c.if-left-eq0.false ∙ inv.0, omega arith, inv.2, omega arith, small)
 

@@ -13,6 +13,6 @@ asked laws text is from (Some t) e = record { fits = laws.fits text is from t (s
 pub returns : goal.returns
 returns g c =
     record {
-      answer = c.next-token.ensures;
-      step = λ is. asked (g.met.L.Language.lawful c.args.language.now) c.args.text.now is c.args.from.0 c.next-token.result c.next-token.ensures;
+      answer = c.next_token.ensures;
+      step = λ is. asked (g.met.L.Language.lawful c.args.language.now) c.args.text.now is c.args.from.0 c.next_token.result c.next_token.ensures;
     }

@@ -4,4 +4,4 @@ use Rattle.languages.proofs.walk.count_in.Goals as goal
 
 pub returns : goal.returns
 unfolding tokens
-returns g c = omega (arith, ap length (c.in-default.ensures.step c.requires))
+returns g c = omega (arith, ap length (c.in_default.ensures.step c.requires))

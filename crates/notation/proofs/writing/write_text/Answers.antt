@@ -26,4 +26,4 @@ pub returns : goal.returns
 unfolding written
 returns c =
     let all = take_all c.loop-byte.byte-index c.args.bytes.now (omega arith) in
-    record { written = search (rules, append_assoc); read_back = back c.args.bytes.now c.ok.bytes }
+    record { written = search (rules, append_assoc); read_back = back c.args.bytes.now c.type_inv.bytes }

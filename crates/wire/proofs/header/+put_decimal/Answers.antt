@@ -8,17 +8,17 @@ use Rattle.wire.proofs.header.+put_decimal.Goals as goal
 one_more : (n : ℕ) → 10 ≤ n → n < 2 ^ 64 → length (decimal n) ≡ length (decimal (n / 10)) + 1
 one_more n h l = ap length (decimal_step n h l) ∙ length_push (decimal (n / 10)) (48 + n % 10)
 
-pub put-bytes-requires : goal.put-bytes-requires
-put-bytes-requires t c = search (rules, decimal_digit)
+pub put_bytes-requires : goal.put_bytes-requires
+put_bytes-requires t c = search (rules, decimal_digit)
 
 pub returns-then-n-lt10 : goal.returns-then-n-lt10
 returns-then-n-lt10 t c = search (rules, decimal_digit)
 
-pub put-decimal-after-requires : goal.put-decimal-after-requires
-put-decimal-after-requires t c = search (rules, one_more)
+pub put_decimal-after-requires : goal.put_decimal-after-requires
+put_decimal-after-requires t c = search (rules, one_more)
 
-pub put-bytes-requires-2 : goal.put-bytes-requires-2
-put-bytes-requires-2 t c = omega (arith, one_more c.args.n (omega arith) (omega arith), c.put_decimal-after.auto.out)
+pub put_bytes-requires-2 : goal.put_bytes-requires-2
+put_bytes-requires-2 t c = omega (arith, one_more c.args.n (omega arith) (omega arith), c.put_decimal-after.auto.out)
 
 pub returns : goal.returns
 returns t c =
