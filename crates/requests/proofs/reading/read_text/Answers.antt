@@ -4,11 +4,11 @@ use Rattle.wire.proofs.Fields.{field_high}
 use Rattle.requests.proofs.Telling.{text_told}
 use Rattle.requests.proofs.reading.read_text.Goals as goal
 
-pub overflow-add-start-2 : goal.overflow-add-start-2
-overflow-add-start-2 c = omega (arith, field_high _ _ _ _ _ _ c.in-ok-count.ensures)
+pub overflow_add-start-2 : goal.overflow_add-start-2
+overflow_add-start-2 c = omega (arith, field_high _ _ _ _ _ _ c.in_ok-count.ensures)
 
 pub returns : goal.returns
 returns c =
     let bs = c.args.body.now in
     let at = c.args.at in
-    ap Some (take_rest bs (at + 4)) ∙ text_told bs at c.in-ok-count.count c.in-ok-count.ensures c.if-body-start.false
+    ap Some (take_rest bs (at + 4)) ∙ text_told bs at c.in_ok-count.count c.in_ok-count.ensures c.if-body-start.false
