@@ -9,4 +9,4 @@ returns c =
     let room = s.room in
     let short = s.short in
     let text = grown (vec_items s.memory) (replicate (c.max-size.result - vec_len s.memory) 0) c.max-size.result s.size (omega arith) (omega arith) in
-    simp (c.in-ok-resize.ensures.items, text) refl
+    simp (c.in_ok-resize.ensures.items, text) refl

@@ -6,7 +6,7 @@ use Rattle.commission.proofs.session.Session.put.Goals as goal
 
 pub returns : goal.returns
 returns c =
-    let same = c.copy-from-slice.ensures.after in
+    let same = c.copy_from_slice.ensures.after in
     let size = ap length same in
     ap (λ t. holding t (view c.args.self.now))
-    (front c.args.self.now.memory (length c.args.text.now) c.copy-from-slice.new.self _ (omega arith) (omega arith) ∙ ap (take (length c.args.text.now)) same ∙ take_all (length c.args.text.now) c.args.text.now (omega arith))
+    (front c.args.self.now.memory (length c.args.text.now) c.copy_from_slice.new.self _ (omega arith) (omega arith) ∙ ap (take (length c.args.text.now)) same ∙ take_all (length c.args.text.now) c.args.text.now (omega arith))
