@@ -76,7 +76,7 @@ fn answer_code(
 }
 
 fn answer_decode(heap: Global, fields: &[u8]) -> Result<Option<String>, AllocError> {
-    let numbers = if fields == b"-" {
+    let numbers = if fields == b"-".as_slice() {
         Vec::new(heap)
     } else {
         let Some(numbers) = read_numbers(heap, fields)? else {
