@@ -1,6 +1,6 @@
 -- How long the text is that a change leaves. Assumes nothing.
 use Rattle.std.proofs.Common.{◌≡◌, ℕ, ◌≤◌, false, List, length, take, IfOk, Ok, Err, Result, sym, ap, arith}
-use Rattle.std.specs.List.{AllByRecursion as All}
+use Rattle.std.specs.List.{AllByRecursion}
 use Rattle.std.proofs.lemmas.Bool.{ltb-false}
 use Rattle.refusals.specs.Outcomes.{taken, outcome}
 use Rattle.refusals.proofs.Settles.{settle_taken, settle_passes}
@@ -13,7 +13,7 @@ module _ (u : ℕ → ℕ) (memory : List ℕ) (n : ℕ) (r : Range) (new after 
   size : k ≡ length (typed u (take n memory) r new)
   size = ap (λ (x : Changed). x.size) (settle_taken memory _ memory (tt {0}) (change_checks u memory n r new) (leaves after k) (sym e)).0
 
-  ok : All (λ c. c.1 ≡ false) (change_checks u memory n r new)
+  ok : AllByRecursion (λ c. c.1 ≡ false) (change_checks u memory n r new)
   ok = settle_passes memory _ (change_checks u memory n r new) (leaves after k) (sym e)
 
   small : k ≤ limit

@@ -1,6 +1,6 @@
 -- Codings of lists of tokens: joined, in order, decoded, and within a word. Assumes nothing.
 use Rattle.std.proofs.Common.{◌≡◌, ℕ, zero, suc, ◌+◌, ◌-◌, ◌*◌, ◌^◌, ◌<◌, ◌≤◌, cond, eqb, ◌⊎◌, List, [], ◌∷◌, ◌++◌, map, length, take, drop, Some, None, sym, refl, ap, ◌∙◌, subst, inl, inr, ⊎_elim, arith, length-drop}
-use Rattle.std.specs.List.{AllByRecursion as All}
+use Rattle.std.specs.List.{AllByRecursion}
 use Rattle.std.proofs.lemmas.List.{take_at}
 use Rattle.std.proofs.lemmas.Bool.{cond-true, cond-false, cond_both, eq-eqb, ne_eqb, cases_lt, cases_Bool}
 use Rattle.text.specs.Units.{Counts}
@@ -113,17 +113,17 @@ pub record Low (x : PlacedToken) : Type 0 where
   pub kind : x.kind < 2 ^ 28
   pub modifiers : x.modifiers < 2 ^ 28
 
-low_code : (l c : ℕ) (xs : List PlacedToken) → All Low xs → All (λ n. n < 2 ^ 28) (code l c xs)
+low_code : (l c : ℕ) (xs : List PlacedToken) → AllByRecursion Low xs → AllByRecursion (λ n. n < 2 ^ 28) (code l c xs)
 low_code l c [] h = tt
 low_code l c (x ∷ xs) h =
     let o = h.0 in
     (omega (arith, o.line), (cond_both {A = ℕ} (eqb x.line l) _ _ (λ z. z < 2 ^ 28) (λ e. omega (arith, o.column)) (λ e. o.column), (o.units, (o.kind, (o.modifiers, low_code x.line x.column xs h.1)))))
 
 module _ (u : ℕ → ℕ) (largest : ℕ) (next : Next) (kinds : ℕ) (t : List ℕ) (counts : Counts u largest) (laws : LanguageLaws next kinds) (is : IsText t) where
-  low_from : (fuel q : ℕ) → All Low (map (placed u t) (up_to fuel next t q))
+  low_from : (fuel q : ℕ) → AllByRecursion Low (map (placed u t) (up_to fuel next t q))
   low_from zero q = tt
   low_from (suc fuel) q =
-      (elim (next t q) as (λ v. next t q ≡ v → All Low (map (placed u t) (followed v (λ k. up_to fuel next t (end k))))) [
+      (elim (next t q) as (λ v. next t q ≡ v → AllByRecursion Low (map (placed u t) (followed v (λ k. up_to fuel next t (end k))))) [
         | None ↦ λ e. tt
         | Some k ↦ λ e.
             let f = laws.fits t is q k e in
@@ -139,7 +139,7 @@ module _ (u : ℕ → ℕ) (largest : ℕ) (next : Next) (kinds : ℕ) (t : List
             )
       ]) refl
 
-  small : All (λ n. n < 2 ^ 28) (fresh u next t)
+  small : AllByRecursion (λ n. n < 2 ^ 28) (fresh u next t)
   unfolding fresh tokens
   small = low_code 0 0 _ (low_from (length t - 0) 0)
 

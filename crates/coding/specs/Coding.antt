@@ -1,6 +1,6 @@
 -- The relative coding of semantic tokens: five numbers for each token. Assumes nothing.
 use Rattle.std.specs.Prelude.{◌≡◌, ℕ, zero, suc, ◌+◌, ◌-◌, ◌^◌, ◌<◌, ◌≤◌, Bool, cond, ◌⊎◌, List, [], ◌∷◌, ◌++◌, length, take, drop, Some, None, Option, ◌==◌, nat_lt}
-use Rattle.std.specs.List.{AllByRecursion as All}
+use Rattle.std.specs.List.{AllByRecursion}
 use Rattle.refusals.specs.Outcomes.{Outcome, settle}
 use Rattle.text.specs.Units.{Counts}
 use Rattle.text.specs.Positions.{IsText, text_checks}
@@ -76,7 +76,7 @@ TokensAreInOrder = (u : ℕ → ℕ) (next : Next) (kinds : ℕ) (t : List ℕ) 
 
 -- every number of a fresh coding fits 28 bits
 abbrev pub FreshCodingsFitWords : Type 0
-FreshCodingsFitWords = (u : ℕ → ℕ) (largest : ℕ) (next : Next) (kinds : ℕ) (t : List ℕ) → Counts u largest → LanguageLaws next kinds → IsText t → All (λ n. n < 2 ^ 28) (fresh u next t)
+FreshCodingsFitWords = (u : ℕ → ℕ) (largest : ℕ) (next : Next) (kinds : ℕ) (t : List ℕ) → Counts u largest → LanguageLaws next kinds → IsText t → AllByRecursion (λ n. n < 2 ^ 28) (fresh u next t)
 
 -- the coding of a list's first tokens is the first part of the list's coding
 abbrev pub FirstTokensCodeFirst : Type 0

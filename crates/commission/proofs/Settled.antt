@@ -1,11 +1,11 @@
 -- How a list of checks settles. Assumes nothing.
 use Rattle.std.proofs.Common.{◌≡◌, ℕ, Bool, true, false, List, [], ◌∷◌, ◌++◌, refl, ap, arith}
-use Rattle.std.specs.List.{AllByRecursion as All}
+use Rattle.std.specs.List.{AllByRecursion}
 use Rattle.refusals.specs.Outcomes.{refused, taken, settle}
 
 -- every check passed
 abbrev pub Clear : List (ℕ × Bool) → Type 0
-Clear cs = All (λ c. c.1 ≡ false) cs
+Clear cs = AllByRecursion (λ c. c.1 ≡ false) cs
 
 module _ {M S : Type 0} where
   -- what is taken passed every check

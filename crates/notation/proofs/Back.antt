@@ -1,6 +1,6 @@
 -- What is written as TEXT is read as the same bytes. Assumes nothing.
 use Rattle.std.proofs.Common.{◌≡◌, ℕ, ◌+◌, ◌-◌, ◌*◌, ◌/◌, ◌%◌, ◌<◌, ◌≤◌, Bool, true, false, cond, not, ◌&&◌, ◌||◌, eqb, ltb, leb, ◌⊎◌, List, [], ◌∷◌, ◌++◌, Some, None, Option, sym, refl, ap, ◌∙◌, inl, inr, ⊎_elim, append_assoc, arith}
-use Rattle.std.specs.List.{flat_map, AllByRecursion as All}
+use Rattle.std.specs.List.{flat_map, AllByRecursion}
 use Rattle.std.proofs.lemmas.Bool.{cases_eq, cases_lt, ne_eqb, le-leb, lt-leb}
 use Rattle.std.proofs.lemmas.Bool.Decides.{nat_tests}
 use Rattle.notation.specs.Texts.{hex_value, stands, both, spelling_of, ahead, next, body_of, text_of, hex_digit, hex_spelled, spelled, written}
@@ -24,12 +24,12 @@ one_back b rest h =
     let itself = by_itself b rest in
     grind (arith, nat_tests)
 
-body_back : (bs rest : List ℕ) → All (λ b. b < 256) bs → body_of 0 (flat_map spelled bs ++ (34 ∷ []) ++ rest) ≡ Some (bs, rest)
+body_back : (bs rest : List ℕ) → AllByRecursion (λ b. b < 256) bs → body_of 0 (flat_map spelled bs ++ (34 ∷ []) ++ rest) ≡ Some (bs, rest)
 body_back [] rest h = refl
 body_back (b ∷ bs) rest (small, all) =
     let apart : flat_map spelled (b ∷ bs) ++ (34 ∷ []) ++ rest ≡ spelled b ++ (flat_map spelled bs ++ (34 ∷ []) ++ rest) = simp append_assoc in
     ap (body_of 0) apart ∙ one_back b (flat_map spelled bs ++ (34 ∷ []) ++ rest) small ∙ ap (ahead b) (body_back bs rest all)
 
-pub read_back : (bs rest : List ℕ) → All (λ b. b < 256) bs → text_of (written bs ++ rest) ≡ Some (bs, rest)
+pub read_back : (bs rest : List ℕ) → AllByRecursion (λ b. b < 256) bs → text_of (written bs ++ rest) ≡ Some (bs, rest)
 unfolding text_of written
 read_back bs rest h = body_back bs rest h

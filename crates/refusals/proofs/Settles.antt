@@ -1,6 +1,6 @@
 -- The checks of one call made over other memory, and one list of checks after another. Assumes nothing.
 use Rattle.std.proofs.Common.{◌≡◌, ℕ, Bool, true, false, cond, List, [], ◌∷◌, ◌++◌, refl, arith}
-use Rattle.std.specs.List.{AllByRecursion as All}
+use Rattle.std.specs.List.{AllByRecursion}
 use Rattle.refusals.specs.Outcomes.{Outcome, refused, taken, settle}
 
 module _ {M S N T : Type 0} (m : M) (s : S) (n : N) (t : T) where
@@ -42,10 +42,10 @@ module _ {M S N T : Type 0} (m : M) (s : S) (n : N) (t : T) (ds : List (ℕ × B
       ]) e
 
 -- where a call is taken, no check fits
-pub settle_passes : {M S : Type 0} (m : M) (s : S) (cs : List (ℕ × Bool)) (x : S) → settle cs m s ≡ taken x → All (λ c. c.1 ≡ false) cs
+pub settle_passes : {M S : Type 0} (m : M) (s : S) (cs : List (ℕ × Bool)) (x : S) → settle cs m s ≡ taken x → AllByRecursion (λ c. c.1 ≡ false) cs
 settle_passes m s [] x e = tt
 settle_passes {M} {S} m s (c ∷ cs) x e =
-    (elim c.1 as (λ b. cond {A = Outcome M S} b (refused c.0 m) (settle cs m s) ≡ taken x → (b ≡ false) × All (λ c. c.1 ≡ false) cs) [
+    (elim c.1 as (λ b. cond {A = Outcome M S} b (refused c.0 m) (settle cs m s) ≡ taken x → (b ≡ false) × AllByRecursion (λ c. c.1 ≡ false) cs) [
       | true ↦ λ e. let z : ◌≡◌ {A = ℕ} 0 1 = cc in absurd (omega arith)
       | false ↦ λ e. (refl, settle_passes m s cs x e)
     ]) e

@@ -1,6 +1,6 @@
 -- What is written is read as the same message. Assumes nothing.
 use Rattle.std.proofs.Common.{◌≡◌, ℕ, ◌+◌, ◌*◌, ◌<◌, ◌≤◌, true, List, length, get_or, Some, sym, ap, ◌∙◌, arith, length-append}
-use Rattle.std.specs.List.{AllByRecursion as All}
+use Rattle.std.specs.List.{AllByRecursion}
 use Rattle.std.proofs.lemmas.List.{drop_at}
 use Rattle.std.proofs.lemmas.Bool.{and_parts, leb-true}
 use Rattle.text.specs.Positions.{limit}
@@ -39,7 +39,7 @@ in_range_lem : (low high n : ℕ) → between low high n ≡ true → (low ≤ n
 in_range_lem low high n e = let p = and_parts _ _ e in (leb-true _ _ p.0, leb-true _ _ p.1)
 
 -- the words of a message whose values are in range, read at their places
-module _ (m : Up) (fits : All Fitting (words_of m)) where
+module _ (m : Up) (fits : AllByRecursion Fitting (words_of m)) where
   nth : (n low high : ℕ) → n < length (words_of m) → low ≤ (get_or (words_of m) n (word 0 0)).1 → (get_or (words_of m) n (word 0 0)).1 ≤ high
       → field_at (body_of m) (4 * n) (get_or (words_of m) n (word 0 0)).0 low high ≡ Some (get_or (words_of m) n (word 0 0)).1
   nth n low high = field_nth (words_of m) (text_of m) n (word 0 0) low high fits
@@ -54,7 +54,7 @@ module _ (o : ℕ) (t : List ℕ) (l : length t ≤ limit) (e : ranged (up_open 
   open_back =
       let m = up_open o t in
       let a = in_range_lem _ _ _ e in
-      let fits : All Fitting (words_of m) = ((omega arith, omega arith), ((omega arith, omega (arith, a.1)), ((omega arith, omega arith), ((omega arith, omega (arith, l)), tt)))) in
+      let fits : AllByRecursion Fitting (words_of m) = ((omega arith, omega arith), ((omega arith, omega (arith, a.1)), ((omega arith, omega arith), ((omega arith, omega (arith, l)), tt)))) in
       open_read (body_of m) o (nth m fits 1 1 4095 (omega arith) a.0 a.1) t (nth m fits 0 0 268435455 (omega arith) (omega arith) (omega arith))
       (nth m fits 2 1 1 (omega arith) (omega arith) (omega arith)) (ends m fits 12 (omega arith) (nth m fits 3 0 268435455 (omega arith) (omega arith) (omega (arith, l))))
 
@@ -73,7 +73,7 @@ module _ (o v : ℕ) (r : Range) (t : List ℕ) (l : length t ≤ limit) (e : ra
       let fc = in_range_lem _ _ _ from.1 in
       let tl = in_range_lem _ _ _ to.0 in
       let tc = in_range_lem _ _ _ to.1 in
-      let fits : All Fitting (words_of m) =
+      let fits : AllByRecursion Fitting (words_of m) =
       ((omega arith, omega arith), ((omega arith, omega (arith, a.1)), ((omega arith, omega (arith, b.1)), ((omega arith, omega (arith, fl.1)), ((omega arith, omega (arith, fc.1)), ((omega arith, omega (arith, tl.1)), ((omega arith, omega (arith, tc.1)), ((omega arith, omega (arith, l)), tt)))))))) in
       type_read (body_of m) o (nth m fits 1 1 4095 (omega arith) a.0 a.1) v r.start r.end t (nth m fits 0 0 268435455 (omega arith) (omega arith) (omega arith))
       (nth m fits 2 1 65535 (omega arith) b.0 b.1)
@@ -88,7 +88,7 @@ module _ (o v : ℕ) (t : List ℕ) (l : length t ≤ limit) (e : ranged (up_rep
       let p = and_parts _ _ e in
       let a = in_range_lem _ _ _ p.0 in
       let b = in_range_lem _ _ _ p.1 in
-      let fits : All Fitting (words_of m) = ((omega arith, omega arith), ((omega arith, omega (arith, a.1)), ((omega arith, omega (arith, b.1)), ((omega arith, omega (arith, l)), tt)))) in
+      let fits : AllByRecursion Fitting (words_of m) = ((omega arith, omega arith), ((omega arith, omega (arith, a.1)), ((omega arith, omega (arith, b.1)), ((omega arith, omega (arith, l)), tt)))) in
       replace_read (body_of m) o (nth m fits 1 1 4095 (omega arith) a.0 a.1) v t (nth m fits 0 0 268435455 (omega arith) (omega arith) (omega arith))
       (nth m fits 2 1 65535 (omega arith) b.0 b.1) (ends m fits 12 (omega arith) (nth m fits 3 0 268435455 (omega arith) (omega arith) (omega (arith, l))))
 
@@ -99,7 +99,7 @@ module _ (o v : ℕ) (e : ranged (up_save o v) ≡ true) where
       let p = and_parts _ _ e in
       let a = in_range_lem _ _ _ p.0 in
       let b = in_range_lem _ _ _ p.1 in
-      let fits : All Fitting (words_of m) = ((omega arith, omega arith), ((omega arith, omega (arith, a.1)), ((omega arith, omega (arith, b.1)), tt))) in
+      let fits : AllByRecursion Fitting (words_of m) = ((omega arith, omega arith), ((omega arith, omega (arith, a.1)), ((omega arith, omega (arith, b.1)), tt))) in
       save_read (body_of m) o (nth m fits 1 1 4095 (omega arith) a.0 a.1) v (nth m fits 0 0 268435455 (omega arith) (omega arith) (omega arith))
       (nth m fits 2 1 65535 (omega arith) b.0 b.1) (body_length m)
 
@@ -107,7 +107,7 @@ close_back : (o : ℕ) → ranged (up_close o) ≡ true → reading (body_of (up
 close_back o e =
     let m = up_close o in
     let a = in_range_lem _ _ _ e in
-    let fits : All Fitting (words_of m) = ((omega arith, omega arith), ((omega arith, omega (arith, a.1)), tt)) in
+    let fits : AllByRecursion Fitting (words_of m) = ((omega arith, omega arith), ((omega arith, omega (arith, a.1)), tt)) in
     close_read (body_of m) o (nth m fits 1 1 4095 (omega arith) a.0 a.1) (nth m fits 0 0 268435455 (omega arith) (omega arith) (omega arith)) (body_length m)
 
 module _ (o r : ℕ) (e : ranged (up_ask_full o r) ≡ true) where
@@ -117,7 +117,7 @@ module _ (o r : ℕ) (e : ranged (up_ask_full o r) ≡ true) where
       let p = and_parts _ _ e in
       let a = in_range_lem _ _ _ p.0 in
       let b = in_range_lem _ _ _ p.1 in
-      let fits : All Fitting (words_of m) = ((omega arith, omega arith), ((omega arith, omega (arith, a.1)), ((omega arith, omega (arith, b.1)), tt))) in
+      let fits : AllByRecursion Fitting (words_of m) = ((omega arith, omega arith), ((omega arith, omega (arith, a.1)), ((omega arith, omega (arith, b.1)), tt))) in
       ask_full_read (body_of m) o (nth m fits 1 1 4095 (omega arith) a.0 a.1) r (nth m fits 0 0 268435455 (omega arith) (omega arith) (omega arith))
       (nth m fits 2 1 65535 (omega arith) b.0 b.1) (body_length m)
 
@@ -130,7 +130,7 @@ module _ (o r i : ℕ) (e : ranged (up_ask_delta o r i) ≡ true) where
       let a = in_range_lem _ _ _ p.0 in
       let b = in_range_lem _ _ _ q.0 in
       let d = in_range_lem _ _ _ q.1 in
-      let fits : All Fitting (words_of m) = ((omega arith, omega arith), ((omega arith, omega (arith, a.1)), ((omega arith, omega (arith, b.1)), ((omega arith, omega (arith, d.1)), tt)))) in
+      let fits : AllByRecursion Fitting (words_of m) = ((omega arith, omega arith), ((omega arith, omega (arith, a.1)), ((omega arith, omega (arith, b.1)), ((omega arith, omega (arith, d.1)), tt)))) in
       ask_delta_read (body_of m) o (nth m fits 1 1 4095 (omega arith) a.0 a.1) r i (nth m fits 0 0 268435455 (omega arith) (omega arith) (omega arith))
       (nth m fits 2 1 65535 (omega arith) b.0 b.1) (nth m fits 3 1 65535 (omega arith) d.0 d.1) (body_length m)
 

@@ -1,6 +1,6 @@
 -- What a field that was read tells of the bytes. Assumes nothing.
 use Rattle.std.proofs.Common.{◌≡◌, ℕ, zero, suc, ◌+◌, ◌*◌, ◌/◌, ◌%◌, ◌^◌, ◌<◌, ◌≤◌, Bool, true, false, cond, eqb, leb, List, [], ◌∷◌, ◌++◌, length, get_or, drop, Some, None, Option, sym, refl, ap, ◌∙◌, append_assoc, arith, length-append}
-use Rattle.std.specs.List.{AllByRecursion as All}
+use Rattle.std.specs.List.{AllByRecursion}
 use Rattle.std.proofs.lemmas.List.{get_or-append-add, drop_more}
 use Rattle.std.proofs.lemmas.Bool.{and_parts, leb-true, eqb-true, le-leb, eq-eqb}
 use Rattle.std.proofs.lemmas.Bool.Decides.{nat_tests}
@@ -81,7 +81,7 @@ module _ (k v : ℕ) (rest : List ℕ) (kinds : k < 16) (values : v < 2 ^ 28) wh
       rw (there, a, b, c, d)
 
 -- the value of the word with that number
-pub field_nth : (ws : List Word) (t : List ℕ) (n : ℕ) (d : Word) (low high : ℕ) → All Fitting ws → n < length ws → low ≤ (get_or ws n d).1 → (get_or ws n d).1 ≤ high
+pub field_nth : (ws : List Word) (t : List ℕ) (n : ℕ) (d : Word) (low high : ℕ) → AllByRecursion Fitting ws → n < length ws → low ≤ (get_or ws n d).1 → (get_or ws n d).1 ≤ high
     → field_at (words ws ++ t) (4 * n) (get_or ws n d).0 low high ≡ Some (get_or ws n d).1
 field_nth [] t n d low high a lt l h = absurd (omega arith)
 field_nth (w ∷ ws) t zero d low high a lt l h =

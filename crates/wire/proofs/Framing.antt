@@ -1,6 +1,6 @@
 -- Reading a frame, and the frame of a body. Assumes nothing.
 use Rattle.std.proofs.Common.{◌≡◌, ℕ, ◌+◌, ◌-◌, ◌≤◌, true, false, eqb, List, ◌++◌, length, take, drop, Some, None, Option, refl, ap, ◌∙◌, arith, length-append, length-drop, take-append-drop}
-use Rattle.std.specs.List.{AllByRecursion as All}
+use Rattle.std.specs.List.{AllByRecursion}
 use Rattle.std.proofs.lemmas.List.{take_rest, drop_at}
 use Rattle.std.proofs.lemmas.Bool.{and_parts, eqb-true, eq-eqb, not-false}
 use Rattle.std.proofs.lemmas.Slice.Eq.{bytes_eq-Decides}
@@ -36,7 +36,7 @@ module _ (bs : List ℕ) (start : ℕ) (e : header_rule bs ≡ taken start) wher
   abbrev n : ℕ
   n = announced bs
 
-  passes : All (λ c. c.1 ≡ false) (header_checks bs)
+  passes : AllByRecursion (λ c. c.1 ≡ false) (header_checks bs)
   passes = settle_passes (tt {0}) (length (heading n)) (header_checks bs) start e
 
   start_is : start ≡ length (heading n)

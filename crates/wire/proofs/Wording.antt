@@ -1,6 +1,6 @@
 -- Words one behind another. Assumes nothing.
 use Rattle.std.proofs.Common.{◌≡◌, ℕ, zero, suc, ◌+◌, ◌*◌, ◌<◌, List, [], ◌∷◌, ◌++◌, length, get_or, take, sym, refl, ap, ◌∙◌, arith, length-append}
-use Rattle.std.specs.List.{AllByRecursion as All}
+use Rattle.std.specs.List.{AllByRecursion}
 use Rattle.std.proofs.lemmas.List.{append_assoc, append-nil, take_more}
 use Rattle.wire.specs.declared.words.Word.{Word}
 use Rattle.wire.specs.Words.{word_of, words, Fitting}
@@ -17,7 +17,7 @@ words_length (w ∷ ws) = length-append (word_of w.0 w.1) (words ws) ∙ omega (
 pub words_more : (ws : List Word) (i : ℕ) (d : Word) → i < length ws → words (take (i + 1) ws) ≡ words (take i ws) ++ word_of (get_or ws i d).0 (get_or ws i d).1
 words_more ws i d lt = ap words (take_more ws i d lt) ∙ words_append (take i ws) (get_or ws i d ∷ []) ∙ ap (λ r. words (take i ws) ++ r) (append-nil (word_of (get_or ws i d).0 (get_or ws i d).1))
 
-pub fitting_at : (ws : List Word) (i : ℕ) (d : Word) → All Fitting ws → i < length ws → Fitting (get_or ws i d)
+pub fitting_at : (ws : List Word) (i : ℕ) (d : Word) → AllByRecursion Fitting ws → i < length ws → Fitting (get_or ws i d)
 fitting_at [] i d a lt = absurd (omega arith)
 fitting_at (w ∷ ws) zero d a lt = a.0
 fitting_at (w ∷ ws) (suc i) d a lt = fitting_at ws i d a.1 (omega arith)

@@ -1,6 +1,6 @@
 // Whole frames.
 ghost use Rattle.std.specs.Prelude.{◌≡◌, ◌+◌, ◌*◌, ◌≤◌, ◌++◌, length};
-ghost use Rattle.std.specs.List.{AllByRecursion as All};
+ghost use Rattle.std.specs.List.{AllByRecursion};
 ghost use Rattle.wire.specs.Words.{over, words, Fitting};
 ghost use Rattle.wire.specs.Frames.{frame_of};
 
@@ -14,7 +14,7 @@ pub const FRAME_LIMIT: usize = 10_301;
 pub fn put_frame(out: &mut [u8], given: &[Word], tail: &[u8]) -> usize
     requires room { 10301 ≤ length out.old }
     requires short { 4 * length given.now + length tail.now ≤ 10276 }
-    requires fit { All Fitting given.now }
+    requires fit { AllByRecursion Fitting given.now }
     ensures size { result ≡ length (frame_of (words given.now ++ tail.now)) }
     ensures bytes { out.new ≡ over out.old 0 (frame_of (words given.now ++ tail.now)) }
 {

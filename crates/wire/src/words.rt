@@ -1,6 +1,6 @@
 // Words of 32 bits, most significant byte first: 4 bits of kind and 28 of value.
 ghost use Rattle.std.specs.Prelude.{◌≡◌, ◌+◌, ◌*◌, ◌^◌, ◌<◌, ◌≤◌, length};
-ghost use Rattle.std.specs.List.{AllByRecursion as All};
+ghost use Rattle.std.specs.List.{AllByRecursion};
 ghost use Rattle.wire.specs.Words.{word_at, word_of, field_at, over, words, Fitting};
 
 // A word: its kind, and its value.
@@ -57,7 +57,7 @@ pub fn put(out: &mut [u8], at: usize, kind: u32, value: u32) -> usize
 
 // Writes words one behind another from a place on, and answers the place behind them.
 pub fn put_words(out: &mut [u8], start: usize, given: &[Word]) -> usize
-    requires { (start + 4 * length given.now ≤ length out.old) × (All Fitting given.now) }
+    requires { (start + 4 * length given.now ≤ length out.old) × (AllByRecursion Fitting given.now) }
     ensures next { result ≡ start + 4 * length given.now }
     ensures bytes { out.new ≡ over out.old start (words given.now) }
 {
