@@ -1,4 +1,4 @@
-use Rattle.std.proofs.Common.{◌≡◌, ◌+◌, ◌≤◌, List, [], ◌∷◌, ◌++◌, length, get_or, drop, Some, None, vec_items, sym, refl, ap, ◌∙◌, append-nil, arith, rules}
+use Rattle.std.proofs.Common.{◌≡◌, ◌+◌, length, get_or, drop, vec_items, sym, ap, ◌∙◌, append-nil, arith, rules}
 use Rattle.std.proofs.lemmas.List.{take_rest}
 use Rattle.notation.specs.Texts.{spelling_of, body_of, text_of}
 use Rattle.notation.proofs.Bodies.{behind, behind_more, body_end, body_closed, body_more, body_ill}
