@@ -8,7 +8,7 @@ use text::places::Place;
 
 // A language is a value that is asked for the next token of a text from a place on; asking has no effect. Its
 // meaning is `next`, the same answer for the same text and place, and `lawful` is what it has to show.
-// A clause cannot name an associated constant, so the count of types is tied to a ghost member by a method.
+// The count of types is a constant for the code and a ghost member for clauses; a method ties the two.
 pub trait Language {
     // How many token types it has: each type's number is below.
     const TYPES: u32;

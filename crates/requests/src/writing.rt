@@ -94,13 +94,13 @@ fn write_ask_full(frame: &mut [u8], opening: u32, request: u32) -> usize
     put_frame(frame, &words, &[])
 }
 
-fn write_ask_delta(frame: &mut [u8], opening: u32, request: u32, res: u32) -> usize
+fn write_ask_delta(frame: &mut [u8], opening: u32, request: u32, held: u32) -> usize
     requires room { 10301 ≤ length frame.old }
-    requires ranged { ranged (up_ask_delta opening request res) ≡ true }
-    ensures size { result ≡ length (frame_for (up_ask_delta opening request res)) }
-    ensures bytes { frame.new ≡ over frame.old 0 (frame_for (up_ask_delta opening request res)) }
+    requires ranged { ranged (up_ask_delta opening request held) ≡ true }
+    ensures size { result ≡ length (frame_for (up_ask_delta opening request held)) }
+    ensures bytes { frame.new ≡ over frame.old 0 (frame_for (up_ask_delta opening request held)) }
 {
-    let words = [Word(1, 7), Word(2, opening), Word(6, request), Word(7, res)];
+    let words = [Word(1, 7), Word(2, opening), Word(6, request), Word(7, held)];
     put_frame(frame, &words, &[])
 }
 

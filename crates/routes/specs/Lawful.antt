@@ -1,9 +1,8 @@
 -- Routes keep the laws of languages. Assumes nothing.
-use Rattle.std.specs.Prelude.{◌≡◌, ℕ, ◌+◌, ◌-◌, ◌<◌, Bool, true, false, cond, ◌||◌, List, [], ◌∷◌, drop, Some, None, ◌==◌, slice_index, refl}
-use Rattle.std.proofs.Common.{ap, ◌∙◌, arith}
+use Rattle.std.specs.Prelude.{◌≡◌, ℕ, ◌+◌, ◌-◌, ◌<◌, true, ◌||◌, [], ◌∷◌, Some, ◌==◌, slice_index}
+use Rattle.std.proofs.Common.{ap, arith}
 use Rattle.std.proofs.lemmas.Bool.{cond_both, or_left}
 use Rattle.std.proofs.lemmas.Bool.Decides.{nat_tests}
-use Rattle.text.specs.Lines.{is_end, content}
 use Rattle.languages.specs.Types.{type_number}
 use Rattle.languages.specs.Tokens.{LanguageLaws}
 use Rattle.languages.specs.declared.token.TokenType.TheVariants as types
@@ -58,17 +57,3 @@ sound clear (b ∷ bs) p e = by (opens b) (told b) e
 
 pub routes_laws : LanguageLaws routes_next 6
 routes_laws = sound_readings_are_lawful routes_reading 6 (omega arith) sound
-
-ends_open_nothing : (b : ℕ) → is_end b ≡ true → opens b ≡ Nothing
-ends_open_nothing b l = grind (arith, nat_tests)
-
-pub nothing : (b : ℕ) → is_end b ≡ true → (clear : Bool) → read_as (opens b) clear [] ≡ None
-nothing b l clear = ap (λ o. read_as o clear []) (ends_open_nothing b l)
-
--- behind a quote the content goes on
-pub behind_quote : (s : List ℕ) → Quote ≡ opens (slice_index s 0) → drop 1 (content s) ≡ content (drop 1 s)
-behind_quote [] e = let z : ◌≡◌ {A = ℕ} 0 1 = cc in absurd (omega arith)
-behind_quote (b ∷ bs) e = (elim (is_end b) as (λ v. is_end b ≡ v → drop 1 (cond v [] (b ∷ content bs)) ≡ content bs) [
-  | true ↦ λ l. let o = e ∙ ends_open_nothing b l in let z : ◌≡◌ {A = ℕ} 0 1 = cc in absurd (omega arith)
-  | false ↦ λ _. refl
-]) refl

@@ -1,12 +1,11 @@
 -- Settings keep the laws of languages. Assumes nothing.
-use Rattle.std.specs.Prelude.{◌≡◌, ℕ, ◌<◌, Bool, true, [], ◌∷◌, length, take, Some, None, ◌==◌}
-use Rattle.std.proofs.Common.{sym, ap, subst, arith}
+use Rattle.std.specs.Prelude.{◌≡◌, ℕ, ◌<◌, true, [], ◌∷◌, length, take, Some, ◌==◌}
+use Rattle.std.proofs.Common.{sym, subst, arith}
 use Rattle.std.specs.List.{prefix_len}
 use Rattle.std.proofs.lemmas.List.{length-take-le}
 use Rattle.std.proofs.lemmas.List.Sums.{prefix_len-le-length}
 use Rattle.std.proofs.lemmas.Bool.{cond_both, or_left}
 use Rattle.std.proofs.lemmas.Bool.Decides.{nat_tests}
-use Rattle.text.specs.Lines.{is_end}
 use Rattle.languages.specs.declared.token.TokenType.{TokenType}
 use Rattle.languages.specs.declared.token.TokenType.TheVariants as types
 use Rattle.languages.specs.Types.{type_number}
@@ -54,9 +53,3 @@ sound clear (b ∷ bs) p e = by (opens b) (told b) e
 
 pub settings_laws : LanguageLaws settings_next 7
 settings_laws = sound_readings_are_lawful settings_reading 7 (omega arith) sound
-
-ends_open_nothing : (b : ℕ) → is_end b ≡ true → opens b ≡ Nothing
-ends_open_nothing b l = grind (arith, nat_tests)
-
-pub nothing : (b : ℕ) → is_end b ≡ true → (clear : Bool) → read_as (opens b) clear [] ≡ None
-nothing b l clear = ap (λ o. read_as o clear []) (ends_open_nothing b l)

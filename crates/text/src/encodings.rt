@@ -3,7 +3,7 @@ ghost use Rattle.std.specs.Prelude.{◌≡◌, ℕ};
 ghost use Rattle.text.specs.Units.{Counts, utf8_units, utf16_units, utf32_units, utf8_counts, utf16_counts, utf32_counts};
 
 // An encoding is a value that is asked for the units of a character; asking has no effect. Its meaning is `units`.
-// A clause cannot name an associated constant, so each is tied to a ghost member by a method that answers it.
+// Each constant stands beside a ghost member for clauses; a method that answers the constant ties the two.
 pub trait PositionEncoding {
     // The number that names the encoding.
     const NAME: u32;

@@ -1,4 +1,4 @@
--- The grammar, and the test, say the same as `Utf8`. Assumes nothing.
+-- The grammar, and the test, say the same as `IsUtf8`. Assumes nothing.
 use Rattle.std.proofs.Common.{◌≡◌, ℕ, ◌+◌, ◌-◌, ◌*◌, ◌/◌, ◌<◌, ◌≤◌, true, eqb, ◌⊎◌, List, [], ◌∷◌, ◌++◌, drop, IsUtf8, sym, refl, subst, inl, inr, ⊎_elim, arith}
 use lib.Utf8.{scalar, scalars, encode, encodes, next, scalar_cases}
 use Rattle.std.specs.Char.{len_utf8}

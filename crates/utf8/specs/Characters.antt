@@ -44,6 +44,6 @@ pub record Second (x y : ℕ) : Type 0 where
   pub f0 : x ≡ 240 → 144 ≤ y
   pub f4 : x ≡ 244 → y < 144
 
--- `firstChar` is what it is called: the one scalar value whose bytes begin the list, none where there is no such value
+-- `first_char` is what it is called: the one scalar value whose bytes begin the list, none where there is no such value
 abbrev pub FirstCharStands : Type 0
 FirstCharStands = (bs : List ℕ) → First bs (first_char bs)

@@ -19,7 +19,7 @@ pub data Octets : List ℕ → Type 0 where
 unfoldable pub well_formed : List ℕ → Bool
 well_formed bs = scalars (chars bs) && bytes_eq (encodes (chars bs)) bs
 
--- the byte table of RFC 3629 and the library's `Utf8` say the same
+-- the byte table of RFC 3629 and the library's `IsUtf8` say the same
 abbrev pub TableIsUtf8 : Type 0
 TableIsUtf8 = (bs : List ℕ) → (Octets bs → IsUtf8 bs) × (IsUtf8 bs → Octets bs)
 

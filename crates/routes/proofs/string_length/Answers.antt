@@ -2,7 +2,7 @@ use Rattle.std.proofs.Common.{◌≡◌, true, false, get_or, ap, arith}
 use Rattle.std.proofs.lemmas.List.{get_or_past}
 use Rattle.std.proofs.lemmas.Bool.Decides.{nat_tests}
 use Rattle.scanner.specs.Runs.{quote}
-use Rattle.routes.specs.Strings.{closed_at}
+use Rattle.routes.proofs.Strings.{closed_at}
 use Rattle.routes.proofs.string_length.Goals as goal
 
 pub returns-then-length-rest : goal.returns-then-length-rest

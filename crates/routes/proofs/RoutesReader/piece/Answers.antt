@@ -9,7 +9,7 @@ use Rattle.scanner.proofs.Classes.{run_content, run_taken, all_content}
 use Rattle.scanner.proofs.Firsts.{by_first_lem, none_left}
 use Rattle.routes.specs.Reading.{opens, word_type, through, read_as}
 use Rattle.routes.specs.Strings.{through_fits}
-use Rattle.routes.specs.Lawful.{nothing, behind_quote}
+use Rattle.routes.proofs.Openings.{nothing, behind_quote}
 use Rattle.routes.proofs.RoutesReader.piece.Goals as goal
 
 -- what `&rest[1..]` holds

@@ -5,7 +5,7 @@ use Rattle.scanner.specs.Pieces.{plain}
 use Rattle.scanner.proofs.Classes.{run_content, run_taken}
 use Rattle.scanner.proofs.Firsts.{by_first_lem, none_left}
 use Rattle.settings.specs.Reading.{opens, word_piece, read_as}
-use Rattle.settings.specs.Lawful.{nothing}
+use Rattle.settings.proofs.Openings.{nothing}
 use Rattle.settings.proofs.SettingsReader.piece.Goals as goal
 
 pub returns-then-is_empty : goal.returns-then-is_empty
