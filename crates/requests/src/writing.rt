@@ -100,7 +100,12 @@ fn write_ask_delta(frame: &mut [u8], opening: u32, request: u32, held: u32) -> u
     ensures size { result ≡ length (frame_for (up_ask_delta opening request held)) }
     ensures bytes { frame.new ≡ over frame.old 0 (frame_for (up_ask_delta opening request held)) }
 {
-    let words = [Word(1, 7), Word(2, opening), Word(6, request), Word(7, held)];
+    let words = [
+        Word(1, 7),
+        Word(2, opening),
+        Word(6, request),
+        Word(7, held),
+    ];
     put_frame(frame, &words, &[])
 }
 
