@@ -1,8 +1,11 @@
 -- One byte on, for the loops over lines: each says the same of what is left as of the whole. Assumes nothing.
-use Rattle.std.proofs.Common.{◌≡◌, ℕ, zero, suc, ◌+◌, ◌-◌, ◌<◌, ◌≤◌, Bool, true, false, cond, not, ◌&&◌, ◌||◌, eqb, List, [], ◌∷◌, length, get_or, take, drop, Some, None, Option, sym, refl, ap, ◌∙◌, arith, length-take}
+use Rattle.std.proofs.Common.{◌≡◌, ℕ, zero, suc, ◌+◌, ◌-◌, ◌<◌, ◌≤◌, Bool, true, false, cond, not, ◌&&◌, ◌||◌, eqb, ltb, List, [], ◌∷◌, length, get_or, take, drop, Some, None, Option, sym, refl, ap, ◌∙◌, arith, length-take}
+use Rattle.std.specs.List.{position, position_or_len}
+use Rattle.std.specs.Option.{unwrap_or}
 use Rattle.std.proofs.lemmas.List.{at_drop_more, at_drop_all}
-use Rattle.std.proofs.lemmas.Bool.{cond-true, cond-false}
-use Rattle.text.specs.Lines.{is_end, ends, ends_at, later, ahead, start_of, line_count, content}
+use Rattle.std.proofs.lemmas.Bool.{cond-true, cond-false, cond_both, ltb-false, ne_eqb}
+use Rattle.std.specs.Bool.{then_some}
+use Rattle.text.specs.Lines.{place_in, is_end, ends, ends_at, later, ahead, start_of, line_count, content}
 
 pub ahead_later : (n : ℕ) (o : Option ℕ) → ahead n (later o) ≡ ahead (n + 1) o
 ahead_later n None = refl
@@ -68,6 +71,11 @@ module _ (t : List ℕ) (at : ℕ) where
   pub content_all : length t ≤ at → length (content (drop at t)) ≡ 0
   content_all l = ap length (at_drop_all content t at l)
 
+-- at the end of the text only the line starts that is next
+pub line_end : (t : List ℕ) (at left : ℕ) → at ≡ length t → place_in (then_some (eqb left 0) (record { 0 = length t })) ≡ ahead at (start_of (drop at t) left)
+line_end t at zero e = let k : length t ≡ at + 0 = omega arith in ap Some k
+line_end t at (suc left) e = ap (λ b. place_in (then_some b (record { 0 = length t }))) (ne_eqb (suc left) 0 (λ z. omega arith)) ∙ ap (ahead at) (sym (start_none t at (suc left) (omega arith) (omega arith)))
+
 cond_front : (v : Bool) (b : ℕ) (t c : List ℕ) → c ≡ take (length c) t → cond v [] (b ∷ c) ≡ take (length (cond v [] (b ∷ c))) (b ∷ t)
 cond_front true b t c e = refl
 cond_front false b t c e = ap (λ r. b ∷ r) e
@@ -79,3 +87,24 @@ content_front (b ∷ t) = cond_front (is_end b) b t (content t) (content_front t
 
 pub content_fits : (t : List ℕ) → length (content t) ≤ length t
 content_fits t = omega (arith, ap length (content_front t), length-take (length (content t)) t)
+
+-- a line's content goes on to the first byte of a line end, or to the end of the text
+content_size : (t : List ℕ) → position_or_len is_end t ≡ length (content t)
+content_size [] = refl
+content_size (b ∷ t) =
+    let h = content_size t in
+    elim (is_end b) as (λ v. cond (not v) (1 + position_or_len is_end t) 0 ≡ length (cond {A = List ℕ} v [] (b ∷ content t))) [ true ↦ refl | false ↦ omega arith ]
+
+content_end : (t : List ℕ) → unwrap_or (position is_end t) (length t) ≡ length (content t)
+content_end t =
+    let n : ℕ = position_or_len is_end t in
+    let same = content_size t in
+    let fits = content_fits t in
+    cond_both (ltb n (length t)) (Some n) None (λ o. unwrap_or o (length t) ≡ length (content t)) (λ l. same) (λ l. omega (arith, ltb-false n (length t) l))
+
+-- what is cut out from a place on, up to the first byte of a line end
+pub content_cut : (t x : List ℕ) (n k : ℕ) (o : Option ℕ) → x ≡ drop n t → o ≡ position is_end x → k ≡ unwrap_or o (length x) → take (n + k - n) (drop n t) ≡ content (drop n t)
+content_cut t x n k o rest first e =
+    let size : k ≡ length (content (drop n t)) = e ∙ ap (λ p. unwrap_or p (length x)) first ∙ content_end x ∙ ap (λ y. length (content y)) rest in
+    let cut : n + k - n ≡ length (content (drop n t)) = omega arith in
+    ap (λ (i : ℕ). take i (drop n t)) cut ∙ sym (content_front (drop n t))
