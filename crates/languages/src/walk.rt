@@ -12,7 +12,7 @@ use text::places::Place;
 // The next token from a place on, with what the laws say of a text's: it fits, and it is the first of those that are left.
 pub fn ask<L: Language>(language: &L, text: &[u8], from: Place) -> Option<Token>
     ensures answer { result ≡ L.next language.now text.now from.0 }
-    ensures step { IsText text.now → MatchOption result (rest (L.next language.now) text.now from.0 ≡ []) (λ t. Step (L.next language.now) L.kinds text.now from.0 t) }
+    ensures step { IsText text.now → MatchOption result (rest (L.next language.now) text.now from.0 ≡ []) (λ t. Step (L.next language.now) L.TYPES text.now from.0 t) }
 {
     language.next_token(text, from)
 }
