@@ -1,14 +1,13 @@
 -- Readings by the class of the first byte. Assumes nothing.
 use Rattle.std.proofs.Common.{◌≡◌, ℕ, ◌+◌, ◌-◌, ◌<◌, Bool, true, false, cond, eqb, List, [], ◌∷◌, length, get_or, Some, None, sym, refl, ap, ◌∙◌, subst, arith}
 use Rattle.std.specs.List.{prefix_len}
-use Rattle.std.proofs.lemmas.List.Sums.{prefix_len-le-length}
+use Rattle.std.proofs.lemmas.List.Sums.{prefix_len-le-length, prefix_len_passes}
 use Rattle.std.proofs.lemmas.Bool.{cond-true, eqb-true}
 use Rattle.text.specs.Lines.{is_end, content}
 use Rattle.languages.specs.declared.token.TokenType.{TokenType}
 use Rattle.languages.specs.Types.{type_number}
 use Rattle.scanner.specs.declared.piece.Piece.{Piece}
 use Rattle.scanner.specs.Scan.{Reading, by_first, Starts}
-use Rattle.scanner.proofs.Classes.{leading_in}
 
 pub none_left : {C : Type 0} (class_of : ℕ → C) (read_as : C → Reading) (clear : Bool) (s : List ℕ) → true ≡ eqb (length s) 0 → None ≡ by_first class_of read_as clear (content s)
 none_left class_of read_as clear [] h = refl
@@ -31,7 +30,7 @@ run_starts p low b bs kinds kind modifiers e k m =
     record {
       some = omega arith;
       inside = prefix_len-le-length p (b ∷ bs);
-      closed = λ l. low _ (leading_in p (b ∷ bs) (prefix_len p (b ∷ bs) - 1) (omega arith));
+      closed = λ l. low _ (prefix_len_passes p (b ∷ bs) (prefix_len p (b ∷ bs) - 1) 0 (omega arith));
       known = k;
       small = m;
     }
