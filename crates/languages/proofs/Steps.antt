@@ -1,11 +1,23 @@
 -- The token list, asked step by step, and the law of beginnings from what each answer keeps. Assumes nothing.
-use Rattle.std.proofs.Common.{◌≡◌, ℕ, zero, suc, ◌-◌, ◌<◌, ◌≤◌, List, [], ◌∷◌, ◌++◌, length, Some, None, Option, sym, refl, ap, ◌∙◌, arith, length-append}
+use Rattle.std.proofs.Common.{◌≡◌, ℕ, zero, suc, ◌-◌, ◌<◌, ◌≤◌, List, [], ◌∷◌, ◌++◌, length, Some, None, Option, MatchOption, sym, refl, ap, ◌∙◌, arith, length-append}
 use Rattle.std.proofs.lemmas.Bool.{lt-ltb, le-ltb}
 use Rattle.refusals.specs.Outcomes.{refused, taken}
 use Rattle.refusals.proofs.Settles.{settle_taken, settle_refused}
 use Rattle.text.specs.Positions.{IsText, text_checks, check_rule}
 use Rattle.languages.specs.declared.token.Token.{Token}
-use Rattle.languages.specs.Tokens.{LanguageLaws, Next, followed, up_to, rest, tokens, within, end, count_rule}
+use Rattle.languages.specs.Tokens.{LanguageLaws, Step, Next, followed, up_to, rest, tokens, within, end, count_rule}
+
+-- no more tokens than steps, and so no more than bytes
+up_to_few : (fuel : ℕ) (next : Next) (text : List ℕ) (from : ℕ) → length (up_to fuel next text from) ≤ fuel
+up_to_few zero next text from = omega arith
+up_to_few (suc fuel) next text from = elim (next text from) as (λ v. length (followed v (λ t. up_to fuel next text (end t))) ≤ suc fuel) [
+  | None ↦ omega arith
+  | Some t ↦ let h = up_to_few fuel next text (end t) in omega arith
+]
+
+pub few_tokens : (next : Next) (text : List ℕ) → length (tokens next text) ≤ length text
+unfolding tokens
+few_tokens next text = let h = up_to_few (length text - 0) next text 0 in omega arith
 
 -- a token that the answer from a place may be: it starts there or later, has a byte, and lies in the text
 pub record Goes (text : List ℕ) (from : ℕ) (t : Token) : Type 0 where
@@ -66,6 +78,22 @@ module _ {next : Next} {kinds : ℕ} (lawful : LanguageLaws next kinds) (text : 
 
   pub rest_none : (from : ℕ) → next text from ≡ None → rest next text from ≡ []
   rest_none from e = rest_step next text goes_on from ∙ ap (λ (o : Option Token). followed o (λ u. rest next text (end u))) e
+
+  pub asked : (from : ℕ) (o : Option Token) → o ≡ next text from → MatchOption o (rest next text from ≡ []) (Step next kinds text from)
+  asked from None e = rest_none from (sym e)
+  asked from (Some t) e = record { fits = lawful.fits text is from t (sym e); first = rest_some from t (sym e) }
+
+  -- the first of the tokens that are left, and the others
+  pub first_left : (from : ℕ) (t : Token) (ts : List Token) → rest next text from ≡ t ∷ ts → Step next kinds text from t × (rest next text (end t) ≡ ts)
+  first_left from t ts e =
+      (elim (next text from) as (λ v. next text from ≡ v → Step next kinds text from t × (rest next text (end t) ≡ ts)) [
+        | None ↦ λ n. let none = rest_none from n in absurd (cc)
+        | Some u ↦ λ n.
+            let s = rest_some from u n in
+            let f : next text from ≡ Some t = cc in
+            let r = rest_some from t f in
+            (record { fits = lawful.fits text is from t f; first = r }, cc)
+      ]) refl
 
 -- an answer that is none, or starts at n or later
 abbrev pub Past : ℕ → Option Token → Type 0

@@ -8,20 +8,22 @@ use text::places::Place;
 
 // A language is a value that is asked for the next token of a text from a place on; asking has no effect. Its
 // meaning is `next`, the same answer for the same text and place, and `lawful` is what it has to show.
-// The count of types is a constant for the code and a ghost member for clauses; a method ties the two.
 pub trait Language {
     // How many token types it has: each type's number is below.
     const TYPES: u32;
 
-    ghost kinds: { ℕ };
+    ghost TYPES: { ℕ };
 
     ghost next: { Self → List ℕ → ℕ → Option Token };
 
     fn next_token(&self, text: &[u8], from: Place) -> Option<Token>
         ensures { result ≡ next self.now text.now from.0 };
 
-    fn stated_types(&self) -> u32
-        ensures { result ≡ kinds };
+    ghost lawful: { (s : Self) → LanguageLaws (next s) TYPES };
 
-    ghost lawful: { (s : Self) → LanguageLaws (next s) kinds };
+    final fn stated_types(&self) -> u32
+        ensures { result ≡ TYPES }
+    {
+        Self::TYPES
+    }
 }

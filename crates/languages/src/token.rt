@@ -16,28 +16,20 @@ pub struct Token {
 // The token types, by the names that an editor knows.
 #[derive(Clone, Copy)]
 pub enum TokenType {
-    Comment,
-    Keyword,
-    Variable,
-    Number,
-    Operator,
-    String,
-    Property,
+    Comment = 0,
+    Keyword = 1,
+    Variable = 2,
+    Number = 3,
+    Operator = 4,
+    String = 5,
+    Property = 6,
 }
 
 impl TokenType {
     pub fn number(self) -> u32
         ensures { result ≡ type_number self }
     {
-        match self {
-            TokenType::Comment => 0,
-            TokenType::Keyword => 1,
-            TokenType::Variable => 2,
-            TokenType::Number => 3,
-            TokenType::Operator => 4,
-            TokenType::String => 5,
-            TokenType::Property => 6,
-        }
+        self as u32
     }
 }
 

@@ -1,5 +1,5 @@
 -- The routes language, by what starts the rest of a line. Assumes nothing.
-use Rattle.std.specs.Prelude.{ℕ, ◌+◌, cond, ◌||◌, List, [], ◌∷◌, length, take, drop, Some, None, codes, ◌==◌}
+use Rattle.std.specs.Prelude.{ℕ, ◌+◌, cond, ◌||◌, List, [], ◌∷◌, length, take, drop, Some, None, Option, codes, ◌==◌}
 use Rattle.std.specs.List.{prefix_len}
 use Rattle.std.specs.Str.{bytes_eq}
 use Rattle.languages.specs.declared.token.TokenType.{TokenType}
@@ -10,16 +10,16 @@ use Rattle.scanner.specs.Pieces.{plain}
 use Rattle.scanner.specs.Runs.{letter, digit, quote, belongs}
 use Rattle.scanner.specs.Scan.{Reading, by_first, next_by}
 use Rattle.routes.specs.declared.Opening.{Opening}
-use Rattle.routes.specs.declared.Opening.TheVariants.{Comment, Word, Number, Operator, Quote, Nothing}
+use Rattle.routes.specs.declared.Opening.TheVariants.{Comment, Word, Number, Operator, Quote}
 
 -- what a byte opens: `;` a comment, a letter or `_` a word, a digit a number, `+` and `#` an operator, `"` a string
-abbrev pub opens : ℕ → Opening
+abbrev pub opens : ℕ → Option Opening
 opens b =
-    cond (b == 59) Comment
-    (cond (letter b) Word
-    (cond (digit b) Number
-    (cond (b == 43 || b == 35) Operator
-    (cond (quote b) Quote Nothing))))
+    cond (b == 59) (Some Comment)
+    (cond (letter b) (Some Word)
+    (cond (digit b) (Some Number)
+    (cond (b == 43 || b == 35) (Some Operator)
+    (cond (quote b) (Some Quote) None))))
 
 -- `route`, `to` and `drop` are keywords, other words variables
 abbrev pub word_type : List ℕ → TokenType
@@ -37,7 +37,6 @@ read_as Word clear line = Some (plain (prefix_len (belongs runs.Word) line) (wor
 read_as Number clear line = Some (plain (prefix_len (belongs runs.Digits) line) types.Number)
 read_as Operator clear line = Some (plain 1 types.Operator)
 read_as Quote clear line = Some (plain (1 + through (drop 1 line)) types.String)
-read_as Nothing clear line = None
 
 abbrev pub routes_reading : Reading
 routes_reading = by_first opens read_as

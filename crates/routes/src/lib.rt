@@ -2,7 +2,7 @@
 // are keywords, digits are a number, `+` and `#` are operators, and strings stand between quotes.
 #![tactic(auto)]
 
-ghost use Rattle.std.specs.Prelude.{◌≡◌};
+ghost use Rattle.std.specs.Prelude.{◌≡◌, ◌≤◌, length};
 ghost use Rattle.text.specs.Lines.{content};
 ghost use Rattle.routes.specs.Reading.{opens, word_type, through, routes_reading, routes_next};
 ghost use Rattle.routes.specs.Lawful.{routes_laws};
@@ -11,7 +11,7 @@ use languages::language::Language;
 use languages::token::{Token, TokenType};
 use scanner::piece::Piece;
 use scanner::reader::Reader;
-use scanner::runs::{Run, same_bytes};
+use scanner::runs::Run;
 use scanner::scanning::scan;
 use text::places::Place;
 
@@ -26,42 +26,39 @@ enum Opening {
     Number,
     Operator,
     Quote,
-    Nothing,
 }
 
-fn opened_by(b: u8) -> Opening
+fn opened_by(b: u8) -> Option<Opening>
     ensures { result ≡ opens b }
 {
     match b as char {
-        ';' => Opening::Comment,
-        'A'..='Z' | 'a'..='z' | '_' => Opening::Word,
-        '0'..='9' => Opening::Number,
-        '+' | '#' => Opening::Operator,
-        '"' => Opening::Quote,
-        _ => Opening::Nothing,
+        ';' => Some(Opening::Comment),
+        'A'..='Z' | 'a'..='z' | '_' => Some(Opening::Word),
+        '0'..='9' => Some(Opening::Number),
+        '+' | '#' => Some(Opening::Operator),
+        '"' => Some(Opening::Quote),
+        _ => None,
     }
 }
 
 fn word_type(word: &[u8]) -> TokenType
     ensures { result ≡ word_type word.now }
 {
-    if same_bytes(word, b"route") || same_bytes(word, b"to") || same_bytes(word, b"drop") {
-        TokenType::Keyword
-    } else {
-        TokenType::Variable
+    match word {
+        b"route" | b"to" | b"drop" => TokenType::Keyword,
+        _ => TokenType::Variable,
     }
 }
 
 // How many bytes a string has behind its first quote: through the next quote, else to the end of the line's content.
+#[tactic(auto, using(crate::proofs::Strings::through_is))]
 fn string_length(rest: &[u8]) -> usize
-    ensures { result ≡ through (content rest.now) }
+    ensures through { result ≡ through (content rest.now) }
+    ensures within { result ≤ length rest.now }
 {
     let length = Run::Unquoted.length_in(rest);
-    if length >= rest.len() {
-        return length;
-    }
-    match rest[length] as char {
-        '"' => length + 1,
+    match rest.get(length) {
+        Some(b'"') => length + 1,
         _ => length,
     }
 }
@@ -69,23 +66,21 @@ fn string_length(rest: &[u8]) -> usize
 impl Reader for Routes {
     ghost reading = { λ _. routes_reading };
 
+    #[tactic(auto, using(scanner::proofs::Classes::all_content, scanner::proofs::Classes::run_content, scanner::proofs::Classes::run_taken))]
     fn piece(&self, _clear: bool, rest: &[u8]) -> Option<Piece> {
-        if rest.is_empty() {
-            return None;
-        }
-        match opened_by(rest[0]) {
+        let (first, behind) = rest.split_first()?;
+        match opened_by(*first)? {
             Opening::Comment => Some(Piece::plain(
                 Run::Content.length_in(rest),
                 TokenType::Comment,
             )),
             Opening::Word => {
                 let length = Run::Word.length_in(rest);
-                Some(Piece::plain(length, word_type(&rest[0..length])))
+                Some(Piece::plain(length, word_type(&rest[..length])))
             }
             Opening::Number => Some(Piece::plain(Run::Digits.length_in(rest), TokenType::Number)),
             Opening::Operator => Some(Piece::plain(1, TokenType::Operator)),
-            Opening::Quote => Some(Piece::plain(1 + string_length(&rest[1..]), TokenType::String)),
-            Opening::Nothing => None,
+            Opening::Quote => Some(Piece::plain(1 + string_length(behind), TokenType::String)),
         }
     }
 }
@@ -93,7 +88,7 @@ impl Reader for Routes {
 impl Language for Routes {
     const TYPES: u32 = 6;
 
-    ghost kinds = { 6 };
+    ghost TYPES = { 6 };
 
     ghost next = { λ _. routes_next };
 
@@ -101,9 +96,5 @@ impl Language for Routes {
 
     fn next_token(&self, text: &[u8], from: Place) -> Option<Token> {
         scan(self, text, from)
-    }
-
-    fn stated_types(&self) -> u32 {
-        Self::TYPES
     }
 }

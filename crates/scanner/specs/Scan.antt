@@ -1,5 +1,6 @@
 -- A language by the piece that starts the rest of a line, and that it keeps the laws of languages. Assumes nothing.
 use Rattle.std.specs.Prelude.{◌≡◌, ℕ, ◌+◌, ◌-◌, ◌<◌, ◌≤◌, Bool, cond, List, [], ◌∷◌, length, drop, Some, None, Option, slice_index}
+use Rattle.std.specs.Option.{option_and_then}
 use Rattle.text.specs.Lines.{content}
 use Rattle.languages.specs.declared.token.Token.{Token}
 use Rattle.languages.specs.Types.{type_number}
@@ -39,10 +40,10 @@ first read clear at (b ∷ bs) = found at (start_of read clear (b ∷ bs)) (firs
 abbrev pub next_by : Reading → Next
 next_by read text from = cond (inner (slice_index text from)) None (first read (clear_at text from) from (drop from text))
 
--- a reading that goes by the class of the first byte
-abbrev pub by_first : {C : Type 0} → (ℕ → C) → (C → Reading) → Reading
-by_first class_of read_as clear [] = None
-by_first class_of read_as clear (b ∷ bs) = read_as (class_of b) clear (b ∷ bs)
+-- a reading that goes by what the first byte opens, if anything
+abbrev pub by_first : {C : Type 0} → (ℕ → Option C) → (C → Reading) → Reading
+by_first opens read_as clear [] = None
+by_first opens read_as clear (b ∷ bs) = option_and_then (λ c. read_as c clear (b ∷ bs)) (opens b)
 
 -- what a piece has to show that starts the rest of a line's content
 pub record Starts (line : List ℕ) (kinds : ℕ) (p : Piece) : Type 0 where

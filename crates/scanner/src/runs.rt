@@ -21,22 +21,10 @@ impl Run {
         ensures { result ≡ belongs self b }
     {
         match self {
-            Run::Word => match b as char {
-                'A'..='Z' | 'a'..='z' | '_' | '0'..='9' => true,
-                _ => false,
-            },
-            Run::Digits => match b as char {
-                '0'..='9' => true,
-                _ => false,
-            },
-            Run::Content => match b as char {
-                '\n' | '\r' => false,
-                _ => true,
-            },
-            Run::Unquoted => match b as char {
-                '\n' | '\r' | '"' => false,
-                _ => true,
-            },
+            Run::Word => matches!(b as char, 'A'..='Z' | 'a'..='z' | '_' | '0'..='9'),
+            Run::Digits => matches!(b as char, '0'..='9'),
+            Run::Content => !matches!(b as char, '\n' | '\r'),
+            Run::Unquoted => !matches!(b as char, '\n' | '\r' | '"'),
         }
     }
 
@@ -45,12 +33,7 @@ impl Run {
         ensures run { result ≡ prefix_len (belongs self) rest.now }
         ensures within { result ≤ length rest.now }
     {
-        for (at, b) in rest.iter().enumerate() {
-            if !self.has(*b) {
-                return at;
-            }
-        }
-        rest.len()
+        rest.iter().take_while(|b| self.has(**b)).count()
     }
 }
 

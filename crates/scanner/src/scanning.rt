@@ -12,34 +12,24 @@ use text::places::Place;
 fn is_inner(b: u8) -> bool
     ensures { result ≡ inner b }
 {
-    match b as char {
-        '\u{80}'..='\u{BF}' => true,
-        _ => false,
-    }
+    matches!(b as char, '\u{80}'..='\u{BF}')
 }
 
 // Whether the place is inside a character.
 fn is_inside(text: &[u8], place: Place) -> bool
     ensures { result ≡ inner (slice_index text.now place.0) }
 {
-    if place.0 < text.len() {
-        is_inner(text[place.0])
-    } else {
-        false
-    }
+    text.get(place.0).is_some_and(|b| is_inner(*b))
 }
 
 // The piece that starts what is left of a text: only a character's first byte starts one.
 fn start<R: Reader>(reader: &R, clear: bool, rest: &[u8]) -> Option<Piece>
     ensures { result ≡ start_of (R.Reader.reading reader.now) clear rest.now }
 {
-    let [first, ..] = rest else {
-        return None;
-    };
-    if is_inner(*first) {
-        return None;
+    match rest {
+        [first, ..] if !is_inner(*first) => reader.piece(clear, rest),
+        _ => None,
     }
-    reader.piece(clear, rest)
 }
 
 // The first token that starts at the place or later, none from a place past the text or inside a character.
@@ -50,9 +40,8 @@ pub fn scan<R: Reader>(reader: &R, text: &[u8], from: Place) -> Option<Token>
     if is_inside(text, from) {
         return None;
     }
-    let mut at = from.0;
     let mut clear = is_clear(text, from);
-    while at < text.len() {
+    for at in from.0..text.len() {
         if let Some(piece) = start(reader, clear, &text[at..]) {
             return Some(Token {
                 place: Place(at),
@@ -62,7 +51,6 @@ pub fn scan<R: Reader>(reader: &R, text: &[u8], from: Place) -> Option<Token>
             });
         }
         clear = clear_after(clear, text[at]);
-        at += 1;
     }
     None
 }

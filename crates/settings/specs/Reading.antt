@@ -1,5 +1,5 @@
 -- The settings language, by what starts the rest of a line. Assumes nothing.
-use Rattle.std.specs.Prelude.{ℕ, Bool, cond, ◌||◌, List, length, take, Some, None, codes, ◌==◌}
+use Rattle.std.specs.Prelude.{ℕ, Bool, cond, ◌||◌, List, length, take, Some, None, Option, codes, ◌==◌}
 use Rattle.std.specs.List.{prefix_len}
 use Rattle.std.specs.Str.{bytes_eq}
 use Rattle.languages.specs.declared.token.TokenType.TheVariants as types
@@ -10,7 +10,7 @@ use Rattle.scanner.specs.Pieces.{plain}
 use Rattle.scanner.specs.Runs.{letter, digit, belongs}
 use Rattle.scanner.specs.Scan.{Reading, by_first, next_by}
 use Rattle.settings.specs.declared.Opening.{Opening}
-use Rattle.settings.specs.declared.Opening.TheVariants.{Word, Number, Operator, Nothing}
+use Rattle.settings.specs.declared.Opening.TheVariants.{Word, Number, Operator}
 
 -- the modifiers
 abbrev pub readonly : ℕ
@@ -20,8 +20,8 @@ abbrev pub declaration : ℕ
 declaration = 2
 
 -- what a byte opens: a letter or `_` a word, a digit a number, `=` an operator
-abbrev pub opens : ℕ → Opening
-opens b = cond (letter b) Word (cond (digit b) Number (cond (b == 61) Operator Nothing))
+abbrev pub opens : ℕ → Option Opening
+opens b = cond (letter b) (Some Word) (cond (digit b) (Some Number) (cond (b == 61) (Some Operator) None))
 
 -- a word with only spaces and tabs before it in its line is a property, else `on` and `off` are keywords, others variables
 abbrev pub word_piece : Bool → List ℕ → Piece
@@ -36,7 +36,6 @@ abbrev pub read_as : Opening → Reading
 read_as Word clear line = Some (word_piece clear (take (prefix_len (belongs runs.Word) line) line))
 read_as Number clear line = Some (plain (prefix_len (belongs runs.Digits) line) types.Number)
 read_as Operator clear line = Some (plain 1 types.Operator)
-read_as Nothing clear line = None
 
 abbrev pub settings_reading : Reading
 settings_reading = by_first opens read_as

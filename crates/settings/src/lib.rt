@@ -10,7 +10,7 @@ use languages::language::Language;
 use languages::token::{DECLARATION, READONLY, Token, TokenType};
 use scanner::piece::Piece;
 use scanner::reader::Reader;
-use scanner::runs::{Run, same_bytes};
+use scanner::runs::Run;
 use scanner::scanning::scan;
 use text::places::Place;
 
@@ -23,17 +23,16 @@ enum Opening {
     Word,
     Number,
     Operator,
-    Nothing,
 }
 
-fn opened_by(b: u8) -> Opening
+fn opened_by(b: u8) -> Option<Opening>
     ensures { result ≡ opens b }
 {
     match b as char {
-        'A'..='Z' | 'a'..='z' | '_' => Opening::Word,
-        '0'..='9' => Opening::Number,
-        '=' => Opening::Operator,
-        _ => Opening::Nothing,
+        'A'..='Z' | 'a'..='z' | '_' => Some(Opening::Word),
+        '0'..='9' => Some(Opening::Number),
+        '=' => Some(Opening::Operator),
+        _ => None,
     }
 }
 
@@ -49,32 +48,29 @@ fn word_piece(clear: bool, word: &[u8]) -> Piece
             modifiers: DECLARATION,
         };
     }
-    if same_bytes(word, b"on") || same_bytes(word, b"off") {
-        Piece {
+    match word {
+        b"on" | b"off" => Piece {
             length,
             kind: TokenType::Keyword,
             modifiers: READONLY,
-        }
-    } else {
-        Piece::plain(length, TokenType::Variable)
+        },
+        _ => Piece::plain(length, TokenType::Variable),
     }
 }
 
 impl Reader for Settings {
     ghost reading = { λ _. settings_reading };
 
+    #[tactic(auto, using(scanner::proofs::Classes::run_content))]
     fn piece(&self, clear: bool, rest: &[u8]) -> Option<Piece> {
-        if rest.is_empty() {
-            return None;
-        }
-        match opened_by(rest[0]) {
+        let (first, _) = rest.split_first()?;
+        match opened_by(*first)? {
             Opening::Word => {
                 let length = Run::Word.length_in(rest);
-                Some(word_piece(clear, &rest[0..length]))
+                Some(word_piece(clear, &rest[..length]))
             }
             Opening::Number => Some(Piece::plain(Run::Digits.length_in(rest), TokenType::Number)),
             Opening::Operator => Some(Piece::plain(1, TokenType::Operator)),
-            Opening::Nothing => None,
         }
     }
 }
@@ -82,7 +78,7 @@ impl Reader for Settings {
 impl Language for Settings {
     const TYPES: u32 = 7;
 
-    ghost kinds = { 7 };
+    ghost TYPES = { 7 };
 
     ghost next = { λ _. settings_next };
 
@@ -90,9 +86,5 @@ impl Language for Settings {
 
     fn next_token(&self, text: &[u8], from: Place) -> Option<Token> {
         scan(self, text, from)
-    }
-
-    fn stated_types(&self) -> u32 {
-        Self::TYPES
     }
 }

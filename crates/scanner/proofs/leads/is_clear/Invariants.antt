@@ -1,9 +1,7 @@
-use Rattle.std.proofs.Common.{◌≡◌, ◌≤◌, length}
+use Rattle.std.proofs.Common.{◌≡◌}
 use Rattle.scanner.specs.Leads.{clear_at}
+use Rattle.scanner.proofs.Steps.{clear_behind}
 use Rattle.scanner.proofs.leads.is_clear.Given as goal
 
-abbrev pub invariant-loop-at : goal.invariant-loop-at
-invariant-loop-at l = (clear_at l.text l.«at» ≡ clear_at l.text l.initial.«at») × (l.«at» ≤ length l.text)
-
-abbrev pub decreases-loop-at : goal.decreases-loop-at
-decreases-loop-at l = l.«at»
+abbrev pub invariant-loop-b : goal.invariant-loop-b
+invariant-loop-b l = clear_behind l.b-iterator.iter.rest.now ≡ clear_at l.text l.fn.place.0

@@ -1,4 +1,4 @@
-use Rattle.std.proofs.Common.{◌≡◌, ◌-◌, length, drop}
+use Rattle.std.proofs.Common.{◌≡◌, drop}
 use Rattle.scanner.specs.Scan.{first, next_by}
 use Rattle.scanner.proofs.scanning.scan.Given as goal
 
@@ -6,6 +6,3 @@ abbrev pub invariant-loop-at : goal.invariant-loop-at
 invariant-loop-at g l =
     let read = g.R.Reader.reading l.reader in
     first read l.clear l.«at» (drop l.«at» l.text) ≡ next_by read l.text l.initial.«at»
-
-abbrev pub decreases-loop-at : goal.decreases-loop-at
-decreases-loop-at g l = length l.text - l.«at»
