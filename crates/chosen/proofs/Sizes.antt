@@ -6,7 +6,7 @@ use Rattle.refusals.specs.Outcomes.{taken, outcome}
 use Rattle.refusals.proofs.Settles.{settle_taken, settle_passes}
 use Rattle.text.proofs.Changing.{roomy}
 use Rattle.refusals.specs.declared.Refusal.{Refusal}
-use Rattle.text.specs.declared.places.Range.{Range}
+use Rattle.text.specs.Places.{Range}
 use Rattle.text.specs.Positions.{Changed, change_rule, change_checks, leaves, limit, typed}
 
 module _ (u : ℕ → ℕ) (memory : List ℕ) (n : ℕ) (r : Range) (new after : List ℕ) (k : ℕ) (e : taken (leaves after k) ≡ change_rule u memory n r new) where

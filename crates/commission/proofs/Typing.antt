@@ -4,7 +4,7 @@ use Rattle.std.specs.Vec.{with_items}
 use Rattle.std.proofs.lemmas.List.{take-take, length-take, length-take-le}
 use Rattle.std.proofs.lemmas.Bool.{ltb-false, le-ltb, or_parts, not-false}
 use Rattle.refusals.specs.Outcomes.{refused, taken, settle}
-use Rattle.text.specs.declared.places.Range.{Range}
+use Rattle.text.specs.Places.{Range}
 use Rattle.text.specs.Positions.{Changed, limit, text_checks, range_checks, typed, unsound, change_rule, leaves}
 use Rattle.utf8.specs.Grammar.{well_formed}
 use Rattle.commission.specs.declared.session.Session.{Session}

@@ -5,7 +5,7 @@ use Rattle.notation.specs.Texts.{written}
 use Rattle.notation.specs.declared.encoding.Encoding.{Encoding}
 use Rattle.notation.specs.declared.encoding.Encoding.TheVariants.{Utf16}
 use Rattle.refusals.specs.Outcomes.{Outcome, settle}
-use Rattle.text.specs.declared.places.Range.{Range}
+use Rattle.text.specs.Places.{Range}
 use Rattle.utf8.specs.Grammar.{well_formed}
 use Rattle.text.specs.Lines.{line_count}
 use Rattle.text.specs.Positions.{limit, text_checks, range_checks, typed}

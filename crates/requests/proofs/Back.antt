@@ -4,7 +4,7 @@ use Rattle.std.specs.List.{AllByRecursion}
 use Rattle.std.proofs.lemmas.List.{drop_at}
 use Rattle.std.proofs.lemmas.Bool.{and_parts, leb-true}
 use Rattle.text.specs.Positions.{limit}
-use Rattle.text.specs.declared.places.Range.{Range}
+use Rattle.text.specs.Places.{Range}
 use Rattle.wire.specs.Words.{field_at, words, Fitting}
 use Rattle.wire.specs.Headers.{heading}
 use Rattle.wire.proofs.Starting.{header_size}

@@ -1,6 +1,6 @@
 -- What a message that goes up says, its text as bytes. Assumes nothing.
 use Rattle.std.specs.Prelude.{ℕ, Bool, ◌&&◌, List, [], nat_le}
-use Rattle.text.specs.declared.places.Range.{Range}
+use Rattle.text.specs.Places.{Range}
 use Rattle.text.specs.declared.places.Position.{Position}
 use Rattle.requests.specs.declared.message.Request.{Request}
 use Rattle.requests.specs.declared.message.Request.TheVariants.{Open, «Type» as Typed, Replace, Save, Close, AskFull, AskDelta}

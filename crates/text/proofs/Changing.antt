@@ -9,7 +9,7 @@ use Rattle.refusals.proofs.Settles.{settle_on, settle_stop, settle_taken, settle
 use Rattle.lists.specs.Splices.{kept, holds, ended, replaced, splice_rule}
 use Rattle.lists.proofs.Splicing.{held, stays, fits_from, fits_size, replaced_length}
 use Rattle.text.specs.declared.places.Position.{Position}
-use Rattle.text.specs.declared.places.Range.{Range}
+use Rattle.text.specs.Places.{Range}
 use Rattle.text.specs.Lines.{is_end, later, start_of}
 use Rattle.text.specs.Columns.{wide, seek}
 use Rattle.text.specs.Positions.{IsText, limit, or0, place_of, typed, text_checks, range_checks, check_rule, range_rule, unsound, Changed, change_rule, leaves}

@@ -4,7 +4,7 @@ use Rattle.std.proofs.lemmas.Bool.{lt-ltb, le-ltb}
 use Rattle.refusals.specs.Outcomes.{refused, taken, settle}
 use Rattle.text.specs.declared.places.Place.{Place}
 use Rattle.text.specs.declared.places.Position.{Position}
-use Rattle.text.specs.declared.places.Range.{Range}
+use Rattle.text.specs.Places.{Range}
 use Rattle.text.specs.Lines.{start_of, place_in}
 use Rattle.text.specs.Columns.{seek, line_units}
 use Rattle.text.specs.Positions.{or0, is_none, no_line, inside, place_of, cut_column, along_rule, resolve_rule, cut_rule, range_rule}

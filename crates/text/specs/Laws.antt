@@ -2,7 +2,7 @@
 use Rattle.std.specs.Prelude.{◌≡◌, ℕ, ◌+◌, ◌-◌, ◌<◌, ◌≤◌, true, false, List, [], ◌∷◌, length, take, drop, IsUtf8, ◌≢◌}
 use Rattle.std.specs.Str.{chars}
 use Rattle.text.specs.declared.places.Position.{Position}
-use Rattle.text.specs.declared.places.Range.{Range}
+use Rattle.text.specs.Places.{Range}
 use Rattle.text.specs.Lines.{start_of, content, content_of}
 use Rattle.text.specs.Columns.{units_of}
 use Rattle.text.specs.Positions.{or0, no_line, line_at, inside, place_of, cut_column, cut_position, typed}

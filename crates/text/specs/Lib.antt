@@ -1,3 +1,4 @@
+pub mod Places
 pub mod Lines
 pub mod Units
 pub mod Columns

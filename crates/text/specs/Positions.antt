@@ -3,7 +3,7 @@ use Rattle.std.specs.Prelude.{ℕ, ◌+◌, ◌≤◌, min, Bool, true, false, n
 use Rattle.refusals.specs.Outcomes.{Outcome, settle}
 use Rattle.lists.specs.Splices.{replaced}
 use Rattle.text.specs.declared.places.Position.{Position}
-use Rattle.text.specs.declared.places.Range.{Range}
+use Rattle.text.specs.Places.{Range}
 use Rattle.utf8.specs.Grammar.{well_formed}
 use Rattle.text.specs.Lines.{start_of}
 use Rattle.text.specs.Columns.{seek, line_units}

@@ -52,12 +52,7 @@ impl PositionEncoding for Utf8Units {
     ghost counts = { λ _. utf8_counts };
 
     fn units_of(&self, c: char) -> u32 {
-        match c {
-            '\0'..='\u{7F}' => 1,
-            '\u{80}'..='\u{7FF}' => 2,
-            '\u{800}'..='\u{FFFF}' => 3,
-            _ => 4,
-        }
+        c.len_utf8() as u32
     }
 }
 
@@ -78,7 +73,7 @@ impl PositionEncoding for Utf16Units {
     ghost counts = { λ _. utf16_counts };
 
     fn units_of(&self, c: char) -> u32 {
-        if c < '\u{10000}' { 1 } else { 2 }
+        c.len_utf16() as u32
     }
 }
 

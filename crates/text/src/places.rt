@@ -16,16 +16,15 @@ pub struct Position {
     pub character: Column,
 }
 
-// What a change replaces: from the start position up to the end position.
+// From a start up to an end.
 #[derive(Clone, Copy)]
-pub struct Range {
-    pub start: Position,
-    pub end: Position,
+pub struct Between<T> {
+    pub start: T,
+    pub end: T,
 }
 
+// What a change replaces: from the start position up to the end position.
+pub type Range = Between<Position>;
+
 // The same in places.
-#[derive(Clone, Copy)]
-pub struct Span {
-    pub start: Place,
-    pub end: Place,
-}
+pub type Span = Between<Place>;

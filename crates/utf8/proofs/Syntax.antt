@@ -1,30 +1,21 @@
 -- The grammar, and the test, say the same as `IsUtf8`. Assumes nothing.
-use Rattle.std.proofs.Common.{◌≡◌, ℕ, ◌+◌, ◌-◌, ◌*◌, ◌/◌, ◌<◌, ◌≤◌, true, eqb, ◌⊎◌, List, [], ◌∷◌, ◌++◌, drop, IsUtf8, sym, refl, subst, inl, inr, ⊎_elim, arith}
+use Rattle.std.proofs.Common.{◌≡◌, ℕ, ◌+◌, ◌-◌, ◌*◌, ◌/◌, ◌<◌, ◌≤◌, true, ◌⊎◌, List, [], ◌∷◌, ◌++◌, drop, IsUtf8, sym, refl, subst, inl, inr, ⊎_elim, arith}
 use lib.Utf8.{scalar, scalars, encode, encodes, next, scalar_cases}
 use Rattle.std.specs.Char.{len_utf8}
 use Rattle.std.specs.Str.{chars, bytes_eq}
 use Rattle.std.proofs.lemmas.Str.{IsUtf8-append, IsUtf8-encode, IsUtf8-nil, encodes-chars, scalars-chars}
-use Rattle.std.proofs.lemmas.Bool.{and_parts, and_from, eqb-true, eq-eqb, cases_lt, false≢true, cases_eq}
+use Rattle.std.proofs.lemmas.Bool.{and_parts, and_from, cases_lt, cases_eq}
 use Rattle.std.proofs.lemmas.Bool.Decides.{nat_tests}
+use Rattle.std.proofs.lemmas.Slice.Eq.{bytes_eq-Decides}
 use Rattle.utf8.specs.Characters.{Begins}
 use Rattle.utf8.specs.Grammar.{Octets, none, one, two, three, four, well_formed, TableIsUtf8, TestDecidesUtf8}
 use Rattle.utf8.proofs.Chars.{begins_one, begins_two, begins_three, begins_four, RangedAt, ranged, enc_one, enc_two, enc_three, enc_four}
 
-same_from : (xs ys : List ℕ) → bytes_eq xs ys ≡ true → xs ≡ ys
-same_from [] [] e = refl
-same_from [] (y ∷ ys) e = absurd (false≢true e)
-same_from (x ∷ xs) [] e = absurd (false≢true e)
-same_from (x ∷ xs) (y ∷ ys) e = let p = and_parts (eqb x y) (bytes_eq xs ys) e in (λ k. eqb-true x y p.0 k ∷ same_from xs ys p.1 k)
-
-same_self : (xs : List ℕ) → bytes_eq xs xs ≡ true
-same_self [] = refl
-same_self (x ∷ xs) = and_from _ _ (eq-eqb x x refl) (same_self xs)
-
 pub test_decides_utf8 : TestDecidesUtf8
 unfolding well_formed
 test_decides_utf8 bs = (
-  λ e. let p = and_parts _ _ e in (chars bs, (p.0, same_from _ _ p.1)),
-  λ u. and_from _ _ (scalars-chars bs u) (subst (λ x. bytes_eq x bs ≡ true) (sym (encodes-chars bs u)) (same_self bs)),
+  λ e. let p = and_parts _ _ e in (chars bs, (p.0, (bytes_eq-Decides _ _).0 p.1)),
+  λ u. and_from _ _ (scalars-chars bs u) (subst (λ x. bytes_eq x bs ≡ true) (sym (encodes-chars bs u)) ((bytes_eq-Decides bs bs).1 refl)),
 )
 
 two_wide : (c : ℕ) → 128 ≤ c → c < 2048 → len_utf8 c ≡ 2

@@ -5,10 +5,11 @@ use Rattle.std.specs.Str.Parse.{AllDigits, digits_value}
 use Rattle.std.specs.List.{prefix_len}
 use Rattle.std.specs.Str.{bytes_eq}
 use Rattle.std.proofs.lemmas.List.{drop_more, take_at}
-use Rattle.std.proofs.lemmas.Bool.{cond-true, cond-false, and_from, le-leb, eq-eqb}
+use Rattle.std.proofs.lemmas.Bool.{cond-true, cond-false, and_from, le-leb}
 use Rattle.std.proofs.lemmas.Str.Parse.{digit_from_value}
 use Rattle.std.proofs.lemmas.Fmt.{decimal_is_IsNumeral, length-decimal-le}
 use Rattle.std.proofs.lemmas.Bool.Decides.{nat_tests}
+use Rattle.std.proofs.lemmas.Slice.Eq.{bytes_eq-Decides}
 use Rattle.wire.specs.Headers.{body_limit, ending, heading, digits_of, HeadersAnnounce}
 
 -- the digits at the front: one more, and where they end
@@ -39,10 +40,6 @@ digits_front (b ∷ ds) r c (suc n) d l e =
     let m = prefix_len is_ascii_digit (take n (ds ++ (c ∷ r))) in
     ap (λ (k : ℕ). take k (b ∷ (ds ++ (c ∷ r)))) (cond-true (is_ascii_digit b) (1 + m) 0 is ∙ one-add m) ∙ ap (λ x. b ∷ x) (digits_front ds r c n d.1 (omega arith) e)
 
-same_self : (xs : List ℕ) → bytes_eq xs xs ≡ true
-same_self [] = refl
-same_self (x ∷ xs) = and_from _ _ (eq-eqb x x refl) (same_self xs)
-
 pub headers_announce : HeadersAnnounce
 unfolding heading
 headers_announce n rest h =
@@ -50,5 +47,5 @@ headers_announce n rest h =
     let few = length-decimal-le 5 n (omega arith) (omega arith) (omega arith) in
     let digits : digits_of 5 (drop 16 (heading n ++ rest)) ≡ decimal n = ap (digits_of 5) (append_assoc (decimal n) ending rest) ∙ digits_front (decimal n) _ 13 5 reads.0.1 few refl in (
       ap (digits_value 10) digits ∙ reads.1,
-      and_from _ _ (le-leb n body_limit h) (ap (bytes_eq (heading n)) (take_at (heading n) rest (length (heading n)) refl) ∙ same_self (heading n)),
+      and_from _ _ (le-leb n body_limit h) (ap (bytes_eq (heading n)) (take_at (heading n) rest (length (heading n)) refl) ∙ (bytes_eq-Decides (heading n) (heading n)).1 refl),
     )
