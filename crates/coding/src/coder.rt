@@ -8,7 +8,7 @@ ghost use Rattle.coding.specs.Coding.{fresh, code_rule, leaves, TokensAreInOrder
 use crate::cursor::Cursor;
 use languages::language::Language;
 use languages::walk::{Tokens, count_tokens};
-use lists::growing::{Full, Growing};
+use lists::growing::Growing;
 use refusals::Refusal;
 use text::encodings::PositionEncoding;
 
@@ -17,17 +17,17 @@ pub const TOKEN_LIMIT: usize = 512;
 
 pub const LIST_LIMIT: usize = 2560;
 
-// One token's five numbers, refused where they do not all fit.
-fn put(numbers: &mut Growing<'_, u32>, token: [u32; 5]) -> Result<(), Full>
-    ensures items { MatchResult result (λ _. take numbers.new.used numbers.new.slots.now ≡ take numbers.old.used numbers.old.slots.now ++ token) (λ _. length numbers.old.slots.now < numbers.old.used + 5) }
-    ensures used { MatchResult result (λ _. numbers.new.used ≡ numbers.old.used + 5) (λ _. length numbers.old.slots.now < numbers.old.used + 5) }
+// One token's five numbers.
+fn put(numbers: &mut Growing<'_, u32>, token: [u32; 5])
+    requires { numbers.old.used + 5 ≤ length numbers.old.slots.now }
+    ensures items { take numbers.new.used numbers.new.slots.now ≡ take numbers.old.used numbers.old.slots.now ++ token }
+    ensures used { numbers.new.used ≡ numbers.old.used + 5 }
     ensures kept_length { length numbers.new.slots.now ≡ length numbers.old.slots.now }
     ensures slots_name { numbers.new.slots.ghost_name ≡ numbers.old.slots.ghost_name }
 {
     for number in token {
-        numbers.push(number)?;
+        numbers.push(number).unwrap();
     }
-    Ok(())
 }
 
 // The column of a token, from the column of the token before where both share a line.
@@ -71,8 +71,7 @@ fn gather<L: Language, E: PositionEncoding>(
         put(
             &mut numbers,
             [lines, columns, units, token.kind, token.modifiers],
-        )
-        .unwrap();
+        );
         before = start;
         cursor = end;
     }

@@ -35,6 +35,7 @@ impl<'a> Iterator for Decoded<'a> {
 
     ghost remaining = { item_count (λ s. decode s.line s.column s.rest.now) };
 
+    #[tactic(auto, using(crate::proofs::Fives::decode_five))]
     fn next(&mut self) -> Option<PlacedToken> {
         let [lines, columns, units, kind, modifiers, rest @ ..] = self.rest else {
             return None;
