@@ -1,7 +1,7 @@
 -- Lines and columns, one byte on and one part after another. Assumes nothing.
-use Rattle.std.proofs.Common.{◌≡◌, ℕ, zero, suc, ◌+◌, ◌-◌, ◌<◌, ◌≤◌, false, cond, List, [], ◌∷◌, length, get_or, drop, Some, None, Option, sym, refl, ap, ◌∙◌, arith}
+use Rattle.std.proofs.Common.{◌≡◌, ℕ, zero, suc, ◌+◌, ◌-◌, ◌*◌, ◌<◌, ◌≤◌, false, cond, List, [], ◌∷◌, length, get_or, drop, Some, None, Option, sym, refl, ap, ◌∙◌, arith}
 use Rattle.std.proofs.lemmas.List.{drop_more}
-use Rattle.std.proofs.lemmas.Bool.{cond-false}
+use Rattle.std.proofs.lemmas.Bool.{cond-false, cond_both}
 use Rattle.std.proofs.lemmas.Bool.Decides.{nat_tests}
 use Rattle.utf8.specs.Characters.{first_char, First}
 use Rattle.utf8.proofs.Firsts.{first_char_stands}
@@ -18,21 +18,6 @@ wide_few u largest laws bs = by (first_char bs) (first_char_stands bs)
     by : (o : Option ℕ) → First bs o → counted u o ≤ 4
     by None f = omega arith
     by (Some c) f = omega (arith, laws.high c f.is_scalar, laws.few)
-
-module _ (t : List ℕ) (at to : ℕ) (l : at < to) (h : to ≤ length t) where
-  left : to - at ≡ suc (to - (at + 1))
-  left = omega arith
-
-  here : drop at t ≡ get_or t at 0 ∷ drop (at + 1) t
-  here = drop_more t at 0 (omega arith)
-
-  pub line_more : line_of (drop at t) (to - at) ≡ cond (ends_at (drop at t)) 1 0 + line_of (drop (at + 1) t) (to - (at + 1))
-  line_more = ap (line_of (drop at t)) left ∙ ap (λ s. line_of s (suc (to - (at + 1)))) here ∙ ap (λ b. cond b 1 0 + line_of (drop (at + 1) t) (to - (at + 1))) (sym (ap ends_at here))
-
-  pub column_more : (u : ℕ → ℕ) (c : ℕ) → column_of u (drop at t) (to - at) c ≡ column_of u (drop (at + 1) t) (to - (at + 1)) (cond (ends_at (drop at t)) 0 (c + wide u (drop at t)))
-  column_more u c =
-      ap (λ (n : ℕ). column_of u (drop at t) n c) left ∙ ap (λ s. column_of u s (suc (to - (at + 1))) c) here
-      ∙ sym (λ i. column_of u (drop (at + 1) t) (to - (at + 1)) (cond (ends_at (here i)) 0 (c + wide u (here i))))
 
 -- a place behind another: the line and column there, counted on
 
@@ -53,7 +38,7 @@ line_split (b ∷ t) (suc p) q =
     let e : suc p + q ≡ suc (p + q) = omega arith in
     omega (arith, line_split t p q, ap (line_of (b ∷ t)) e)
 
-column_split : (u : ℕ → ℕ) (t : List ℕ) (p q c : ℕ) → column_of u (drop p t) q (column_of u t p c) ≡ column_of u t (p + q) c
+pub column_split : (u : ℕ → ℕ) (t : List ℕ) (p q c : ℕ) → column_of u (drop p t) q (column_of u t p c) ≡ column_of u t (p + q) c
 column_split u t zero q c = let e : q ≡ 0 + q = omega arith in ap (λ (n : ℕ). column_of u t n c) e
 column_split u [] (suc p) q c =
     let e : suc (p + q) ≡ suc p + q = omega arith in
@@ -72,6 +57,17 @@ module _ (t : List ℕ) (at to : ℕ) (l : at ≤ to) where
   pub column_to : (u : ℕ → ℕ) (c : ℕ) → column_of u (drop at t) (to - at) (column_of u t at c) ≡ column_of u t to c
   column_to u c = column_split u t at (to - at) c ∙ ap (λ (n : ℕ). column_of u t n c) whole
 
+-- one byte on
+module _ (t : List ℕ) (at : ℕ) (l : at < length t) where
+  here : drop at t ≡ get_or t at 0 ∷ drop (at + 1) t
+  here = drop_more t at 0 l
+
+  pub line_more : line_of t (at + 1) ≡ line_of t at + cond (ends_at (drop at t)) 1 0
+  line_more = sym (line_split t at 1) ∙ ap (λ s. line_of t at + line_of s 1) here ∙ omega (arith, ap (λ s. cond {A = ℕ} (ends_at s) 1 0) here)
+
+  pub column_more : (u : ℕ → ℕ) → column_of u t (at + 1) 0 ≡ cond (ends_at (drop at t)) 0 (column_of u t at 0 + wide u (drop at t))
+  column_more u = sym (column_split u t at 1 0) ∙ ap (λ s. column_of u s 1 (column_of u t at 0)) here ∙ sym (ap (λ s. cond (ends_at s) 0 (column_of u t at 0 + wide u s)) here)
+
 no_end : (b : ℕ) (t : List ℕ) → is_end b ≡ false → ends b t ≡ false
 no_end b [] e = e
 no_end b (c ∷ t) e = grind (arith, nat_tests, e)
@@ -84,3 +80,18 @@ column_flat u (b ∷ s) (suc n) c l h =
     let w = wide u (b ∷ s) in
     let e = cond-false (ends b s) 0 (c + w) (no_end b s (h 0 (omega arith))) in
     ap (column_of u s n) e ∙ column_flat u s n (c + w) (omega arith) (λ i k. h (suc i) (omega arith)) ∙ omega arith
+
+-- no more lines than bytes, and four units for each at most
+
+pub line_le : (t : List ℕ) (p : ℕ) → line_of t p ≤ length t
+line_le t zero = omega arith
+line_le [] (suc p) = omega arith
+line_le (b ∷ t) (suc p) = let h = line_le t p in cond_both {A = ℕ} (ends b t) 1 0 (λ z. z + line_of t p ≤ suc (length t)) (λ e. omega arith) (λ e. omega arith)
+
+module _ (u : ℕ → ℕ) (largest : ℕ) (laws : Counts u largest) where
+  pub column_le : (t : List ℕ) (p c : ℕ) → column_of u t p c ≤ c + 4 * length t
+  column_le t zero c = omega arith
+  column_le [] (suc p) c = omega arith
+  column_le (b ∷ t) (suc p) c =
+      let w = wide_few u largest laws (b ∷ t) in
+      cond_both {A = ℕ} (ends b t) 0 (c + wide u (b ∷ t)) (λ z. column_of u t p z ≤ c + 4 * suc (length t)) (λ e. omega (arith, column_le t p 0)) (λ e. omega (arith, column_le t p (c + wide u (b ∷ t))))

@@ -11,7 +11,7 @@ use Rattle.languages.specs.Tokens.{Next, LanguageLaws, followed, up_to, tokens, 
 use Rattle.coding.specs.declared.placed.PlacedToken.{PlacedToken}
 use Rattle.coding.specs.Placing.{line_of, column_of, placed, placed_tokens}
 use Rattle.coding.specs.Coding.{code, decode, fresh, Ordered, DecodingUndoesCoding, TokensAreInOrder, FreshCodingsFitWords, FirstTokensCodeFirst}
-use Rattle.coding.proofs.Moving.{wide_few, line_to, column_to}
+use Rattle.coding.proofs.Moving.{wide_few, line_to, column_to, line_le, column_le}
 
 -- the line and column that a list of tokens leaves
 
@@ -88,19 +88,7 @@ tokens_are_in_order u next kinds t laws is = in_order u next kinds t laws is
 
 -- numbers of a fresh coding are small
 
-pub line_le : (t : List ℕ) (p : ℕ) → line_of t p ≤ length t
-line_le t zero = omega arith
-line_le [] (suc p) = omega arith
-line_le (b ∷ t) (suc p) = let h = line_le t p in cond_both {A = ℕ} (ends b t) 1 0 (λ z. z + line_of t p ≤ suc (length t)) (λ e. omega arith) (λ e. omega arith)
-
 module _ (u : ℕ → ℕ) (largest : ℕ) (laws : Counts u largest) where
-  column_le : (t : List ℕ) (p c : ℕ) → column_of u t p c ≤ c + 4 * length t
-  column_le t zero c = omega arith
-  column_le [] (suc p) c = omega arith
-  column_le (b ∷ t) (suc p) c =
-      let w = wide_few u largest laws (b ∷ t) in
-      cond_both {A = ℕ} (ends b t) 0 (c + wide u (b ∷ t)) (λ z. column_of u t p z ≤ c + 4 * suc (length t)) (λ e. omega (arith, column_le t p 0)) (λ e. omega (arith, column_le t p (c + wide u (b ∷ t))))
-
   units_le : (t : List ℕ) (n : ℕ) → units_of u t n ≤ 4 * length t
   units_le t zero = omega arith
   units_le [] (suc n) = omega arith

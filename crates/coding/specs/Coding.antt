@@ -1,5 +1,5 @@
 -- The relative coding of semantic tokens: five numbers for each token. Assumes nothing.
-use Rattle.std.specs.Prelude.{◌≡◌, ℕ, zero, suc, ◌+◌, ◌-◌, ◌^◌, ◌<◌, ◌≤◌, Bool, cond, ◌⊎◌, List, [], ◌∷◌, ◌++◌, length, take, drop, Some, None, Option, ◌==◌, nat_lt}
+use Rattle.std.specs.Prelude.{◌≡◌, ℕ, ◌+◌, ◌-◌, ◌^◌, ◌<◌, ◌≤◌, Bool, cond, ◌⊎◌, List, [], ◌∷◌, ◌++◌, length, take, drop, Option, ◌==◌, nat_lt, slice_get}
 use Rattle.std.specs.List.{AllByRecursion}
 use Rattle.refusals.specs.Outcomes.{Outcome, settle}
 use Rattle.text.specs.Units.{Counts}
@@ -32,14 +32,9 @@ decode l c (a ∷ b ∷ n ∷ k ∷ []) = []
 decode l c (a ∷ b ∷ n ∷ k ∷ m ∷ xs) =
     record { line = l + a; column = cond (a == 0) (c + b) b; units = n; kind = k; modifiers = m } ∷ decode (l + a) (cond (a == 0) (c + b) b) xs
 
-abbrev pub nth : List PlacedToken → ℕ → Option PlacedToken
-nth [] k = None
-nth (x ∷ xs) zero = Some x
-nth (x ∷ xs) (suc k) = nth xs k
-
 -- token k of a coded list
 abbrev pub token_at : List ℕ → ℕ → Option PlacedToken
-token_at list k = nth (decode 0 0 (take list_limit list)) k
+token_at list k = slice_get (decode 0 0 (take list_limit list)) k
 
 -- the fresh coding of a text, from line 0 and column 0
 unfoldable pub fresh : (ℕ → ℕ) → Next → List ℕ → List ℕ

@@ -1,9 +1,10 @@
 -- Tokens by line and column. Assumes nothing.
-use Rattle.std.specs.Prelude.{ℕ, zero, suc, ◌+◌, cond, List, [], ◌∷◌, map, drop}
+use Rattle.std.specs.Prelude.{◌≡◌, ℕ, zero, suc, ◌+◌, cond, List, [], ◌∷◌, map, drop}
 use Rattle.text.specs.Lines.{ends}
 use Rattle.text.specs.Columns.{wide, units_of}
 use Rattle.languages.specs.declared.token.Token.{Token}
 use Rattle.languages.specs.Tokens.{Next, tokens}
+use Rattle.coding.specs.declared.cursor.Cursor.{Cursor}
 use Rattle.coding.specs.declared.placed.PlacedToken.{PlacedToken}
 
 -- the line of a place: one for each line end before it
@@ -28,6 +29,11 @@ module _ (u : ℕ → ℕ) where
     kind = k.kind;
     modifiers = k.modifiers;
   }
+
+  -- a cursor has the line and the column of its place
+  pub record IsAt (t : List ℕ) (c : Cursor) : Type 0 where
+    pub line : c.line ≡ line_of t c.«at»
+    pub column : c.column ≡ column_of t c.«at» 0
 
   -- the tokens of a text by line and column
   abbrev pub placed_tokens : Next → List ℕ → List PlacedToken

@@ -5,39 +5,29 @@ ghost use Rattle.languages.specs.Tokens.{tokens};
 ghost use Rattle.refusals.specs.Outcomes.{outcome};
 ghost use Rattle.coding.specs.Coding.{fresh, code_rule, leaves, TokensAreInOrder, FreshCodingsFitWords, FirstTokensCodeFirst};
 
-use crate::cursor::{Cursor, advance};
+use crate::cursor::Cursor;
 use languages::language::Language;
-use languages::walk::{ask, count_tokens};
-use lists::growing::{Full, Growing};
+use languages::walk::{Tokens, count_tokens};
+use lists::growing::Growing;
 use refusals::Refusal;
 use text::encodings::PositionEncoding;
-use text::places::Place;
 
 // The most tokens of a list, and the numbers that these are.
 pub const TOKEN_LIMIT: usize = 512;
 
 pub const LIST_LIMIT: usize = 2560;
 
-// One token's five numbers, refused where they do not all fit.
-fn put(
-    numbers: &mut Growing<'_, u32>,
-    line: u32,
-    column: u32,
-    units: u32,
-    kind: u32,
-    modifiers: u32,
-) -> Result<(), Full>
-    ensures items { MatchResult result (λ _. take numbers.new.used numbers.new.slots.now ≡ take numbers.old.used numbers.old.slots.now ++ (line ∷ (column ∷ (units ∷ (kind ∷ (modifiers ∷ [])))))) (λ _. length numbers.old.slots.now < numbers.old.used + 5) }
-    ensures used { MatchResult result (λ _. numbers.new.used ≡ numbers.old.used + 5) (λ _. length numbers.old.slots.now < numbers.old.used + 5) }
+// One token's five numbers.
+fn put(numbers: &mut Growing<'_, u32>, token: [u32; 5])
+    requires { numbers.old.used + 5 ≤ length numbers.old.slots.now }
+    ensures items { take numbers.new.used numbers.new.slots.now ≡ take numbers.old.used numbers.old.slots.now ++ token }
+    ensures used { numbers.new.used ≡ numbers.old.used + 5 }
     ensures kept_length { length numbers.new.slots.now ≡ length numbers.old.slots.now }
     ensures slots_name { numbers.new.slots.ghost_name ≡ numbers.old.slots.ghost_name }
 {
-    numbers.push(line)?;
-    numbers.push(column)?;
-    numbers.push(units)?;
-    numbers.push(kind)?;
-    numbers.push(modifiers)?;
-    Ok(())
+    for number in token {
+        numbers.push(number).unwrap();
+    }
 }
 
 // The column of a token, from the column of the token before where both share a line.
@@ -72,22 +62,16 @@ fn gather<L: Language, E: PositionEncoding>(
         column: 0,
     };
     let mut before = cursor;
-    while let Some(token) = ask(language, text, Place(cursor.at)) {
-        let start = advance(encoding, text, cursor, token.place.0);
-        let end = advance(encoding, text, start, start.at + token.length);
+    for token in Tokens::new(language, text) {
+        let start = cursor.advance(encoding, text, token.place.0);
+        let end = start.advance(encoding, text, start.at + token.length);
         let lines = start.line.saturating_sub(before.line);
         let columns = column_from(before, start);
         let units = end.column - start.column;
-        if let Err(Full) = put(
+        put(
             &mut numbers,
-            lines,
-            columns,
-            units,
-            token.kind,
-            token.modifiers,
-        ) {
-            return numbers.len();
-        }
+            [lines, columns, units, token.kind, token.modifiers],
+        );
         before = start;
         cursor = end;
     }
@@ -114,5 +98,5 @@ pub fn code<L: Language, E: PositionEncoding>(
     if count > TOKEN_LIMIT {
         return Err(Refusal::TooManyTokens);
     }
-    Ok(gather(language, encoding, text, &mut list[0..LIST_LIMIT]))
+    Ok(gather(language, encoding, text, &mut list[..LIST_LIMIT]))
 }

@@ -37,7 +37,7 @@ impl Run {
     }
 }
 
-// Whether the two are the same bytes.
+// Whether the two are the same bytes: for readers whose words are no constants.
 pub fn same_bytes(a: &[u8], b: &[u8]) -> bool
     ensures { result ≡ bytes_eq a.now b.now }
 {
