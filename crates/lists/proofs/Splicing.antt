@@ -55,7 +55,7 @@ module _ {X : Type 0} (t i : List X) (start end n : ℕ) where
           → holds k xs ≡ cond v (holds (start + length i + (n - end)) (replaced (take n t) start end i)) (kept t)
           → (fits (length t) n start end (length i) ≡ true) × (k ≡ start + length i + (n - end)) × (xs ≡ replaced (take n t) start end i)
       by true f e = (f, cc, cc)
-      by false f e = let z : ◌≡◌ {A = ℕ} 0 1 = cc in absurd (omega arith)
+      by false f e = absurd (cc)
 
   pub stays : (xs : List X) → kept xs ≡ splice_rule t n start end i → (fits (length t) n start end (length i) ≡ false) × (xs ≡ t)
   stays xs e = by (fits (length t) n start end (length i)) refl e
@@ -63,7 +63,7 @@ module _ {X : Type 0} (t i : List X) (start end n : ℕ) where
       by : (v : Bool) → fits (length t) n start end (length i) ≡ v
           → kept xs ≡ cond v (holds (start + length i + (n - end)) (replaced (take n t) start end i)) (kept t)
           → (fits (length t) n start end (length i) ≡ false) × (xs ≡ t)
-      by true f e = let z : ◌≡◌ {A = ℕ} 0 1 = cc in absurd (omega arith)
+      by true f e = absurd (cc)
       by false f e = (f, cc)
 
 pub replaced_length : {X : Type 0} (xs new : List X) (a b : ℕ) → a ≤ length xs → length (replaced xs a b new) ≡ a + length new + (length xs - b)

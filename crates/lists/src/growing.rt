@@ -5,7 +5,7 @@ ghost use Rattle.std.specs.Prelude.{◌≡◌, ◌+◌, ◌<◌, ◌≤◌, min,
 #[derive(Clone, Copy)]
 pub struct Full;
 
-// The list is the first `used` entries of the slice. The clauses on names say that it stays the lender's slice, so that
+// The list is the first `used` entries of the slice, which is lent: a `Vec` would own its memory. The clauses on names say that it stays the lender's slice, so that
 // the lender knows what it holds afterwards.
 #[derive(Drop)]
 pub struct Growing<'a, T> {

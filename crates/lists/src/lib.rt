@@ -6,6 +6,8 @@ ghost use Rattle.lists.specs.Splices.{ended, splice_rule, copied, copy_rule};
 
 pub mod growing;
 
+// Lists here are a lent slice and a length, not a `Vec`: the memory is the lender's, and nothing is allocated.
+
 // Replaces the entries from `start` up to `end` of the `length` entries in `list` by `inserted`, and answers the
 // new length. The tail is moved once. None, with every entry as it was, where the places are out of order or the
 // list would pass its slice.

@@ -1,5 +1,5 @@
 -- The checks of one call made over other memory, and one list of checks after another. Assumes nothing.
-use Rattle.std.proofs.Common.{◌≡◌, ℕ, Bool, true, false, cond, List, [], ◌∷◌, ◌++◌, refl, arith}
+use Rattle.std.proofs.Common.{◌≡◌, ℕ, Bool, true, false, cond, List, [], ◌∷◌, ◌++◌, refl}
 use Rattle.std.specs.List.{AllByRecursion}
 use Rattle.refusals.specs.Outcomes.{Outcome, refused, taken, settle}
 
@@ -46,6 +46,6 @@ pub settle_passes : {M S : Type 0} (m : M) (s : S) (cs : List (ℕ × Bool)) (x 
 settle_passes m s [] x e = tt
 settle_passes {M} {S} m s (c ∷ cs) x e =
     (elim c.1 as (λ b. cond {A = Outcome M S} b (refused c.0 m) (settle cs m s) ≡ taken x → (b ≡ false) × AllByRecursion (λ c. c.1 ≡ false) cs) [
-      | true ↦ λ e. let z : ◌≡◌ {A = ℕ} 0 1 = cc in absurd (omega arith)
+      | true ↦ λ e. absurd (cc)
       | false ↦ λ e. (refl, settle_passes m s cs x e)
     ]) e

@@ -14,7 +14,7 @@ use Rattle.requests.specs.Frames.{ReadIsWritten}
 -- what was read of two parts
 
 some_and : {X Y R : Type 0} (o : Option X) (f : X → Option Y) (y : Y) → and o f ≡ Some y → ((x : X) → o ≡ Some x → f x ≡ Some y → R) → R
-some_and None f y e k = let z : ◌≡◌ {A = ℕ} 0 1 = cc in absurd (omega arith)
+some_and None f y e k = absurd (cc)
 some_and (Some x) f y e k = k x refl e
 
 choose : {X R : Type 0} (b : Bool) (x y : Option X) (m : X) → cond b x y ≡ Some m → (b ≡ true → x ≡ Some m → R) → (y ≡ Some m → R) → R
@@ -102,7 +102,7 @@ module _ (bs : List ℕ) (octets : Octets bs) where
       let at : (k : ℕ) → eqb n k ≡ true → value_at bs 0 1 ≡ Some k = λ k t. z ∙ ap Some (eqb-true n k t) in
       choose (eqb n 1) _ _ m e (λ t. open_only m (at 1 t)) (λ e. choose (eqb n 2) _ _ m e (λ t. type_only m (at 2 t)) (λ e. choose (eqb n 3) _ _ m e (λ t. replace_only m (at 3 t)) (λ e.
       choose (eqb n 4) _ _ m e (λ t. save_only m (at 4 t)) (λ e. choose (eqb n 5) _ _ m e (λ t. close_only m (at 5 t)) (λ e. choose (eqb n 6) _ _ m e (λ t. ask_full_only m (at 6 t)) (λ e.
-      choose (eqb n 7) _ _ m e (λ t. ask_delta_only m (at 7 t)) (λ e. let z : ◌≡◌ {A = ℕ} 0 1 = cc in absurd (omega arith)))))))))
+      choose (eqb n 7) _ _ m e (λ t. ask_delta_only m (at 7 t)) (λ e. absurd (cc)))))))))
 
 pub read_is_written : ReadIsWritten
 read_is_written bs m octets e =

@@ -1,7 +1,7 @@
 // The messages that go up.
 use text::places::Range;
 
-// The number of each message.
+// The number of each message. Constants, since an enum would need this table once more for each way.
 pub(crate) const OPEN: u32 = 1;
 
 pub(crate) const TYPE: u32 = 2;

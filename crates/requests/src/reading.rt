@@ -1,4 +1,5 @@
-// Reading the messages that go up: one function a message, one call a field.
+// Reading the messages that go up: one function a message, one call a field. Some differ in a constant alone, and stay
+// apart, so that each message can be read off by itself.
 ghost use Rattle.std.specs.Prelude.{◌≡◌, ◌≤◌};
 ghost use Rattle.std.specs.Option.{option_map};
 ghost use Rattle.refusals.specs.Outcomes.{outcome};
@@ -148,6 +149,7 @@ fn read_body(body: &[u8]) -> Option<Request<'_>>
 
 // The message in a frame: 4 where the header is not as laid out, 5 where the bytes behind it are not as many as it says,
 // 6 where the body is no message that goes up.
+#[tactic(auto, using(crate::proofs::Only::read_is_written))]
 pub fn read_request(frame: &[u8]) -> Result<Request<'_>, Refusal>
     ensures message { outcome meaning result tt ≡ read_frame reading frame.now }
     ensures only { ReadIsWritten }

@@ -1,4 +1,5 @@
-// Writing the messages that go up: one function a message.
+// Writing the messages that go up: one function a message, each the table of its words, also where two tables differ in a
+// constant alone.
 ghost use Rattle.std.specs.Prelude.{◌≡◌, length};
 ghost use Rattle.refusals.specs.Outcomes.{outcome};
 ghost use Rattle.requests.specs.Messages.{meaning, ranged, text_of, openings, counts, positions, up_open, up_type, up_replace, up_save, up_close, up_ask_full, up_ask_delta};
@@ -193,6 +194,7 @@ fn write_message(frame: &mut [u8], message: Request<'_>) -> usize
 
 // Writes the frame of a message to the front of a lent slice, and answers its length: 1 where the slice has fewer than
 // 10,301 bytes, 6 where a value is out of its range, 7 where the text is too long.
+#[tactic(auto, using(crate::proofs::Back::written_is_read, crate::proofs::Back::frames_are_short))]
 pub fn write_request(frame: &mut [u8], message: Request<'_>) -> Result<usize, Refusal>
     ensures rule { outcome (leaves frame.new) result frame.new ≡ write_rule frame.old (meaning message.entry) }
     ensures back { WrittenIsRead }

@@ -41,12 +41,12 @@ step u b t c = by_end (is_end b) refl
     by_end false e = by_wide e (eqb w 0) refl
 
 later_is : (o : Option ℕ) (m : ℕ) → later o ≡ Some m → (n : ℕ) × (o ≡ Some n) × (m ≡ suc n)
-later_is None m e = let z : ◌≡◌ {A = ℕ} 0 1 = cc in absurd (omega arith)
+later_is None m e = absurd (cc)
 later_is (Some n) m e = (n, refl, cc)
 
 later_none : (o : Option ℕ) → later o ≡ None → o ≡ None
 later_none None e = refl
-later_none (Some n) e = let z : ◌≡◌ {A = ℕ} 0 1 = cc in absurd (omega arith)
+later_none (Some n) e = absurd (cc)
 
 module _ (u : ℕ → ℕ) where
   abbrev Counted : List ℕ → ℕ → ℕ → Type 0
@@ -100,7 +100,7 @@ module _ (u : ℕ → ℕ) where
 
   -- where it falls inside a character, no part of the line counts the column
   pub seek_never : (t : List ℕ) (c : ℕ) → seek u t c ≡ None → Never t c
-  seek_never [] c e = let z : ◌≡◌ {A = ℕ} 0 1 = cc in absurd (omega arith)
+  seek_never [] c e = absurd (cc)
   seek_never (b ∷ t) c e = never_step b t c (seek u (b ∷ t) c) (λ d q. seek_never t d q) (step u b t c) e
 
   -- a character that begins somewhere begins where the text may be cut

@@ -1,5 +1,5 @@
 -- From where a line starts and how far into it a column is to the place of a position. Assumes nothing.
-use Rattle.std.proofs.Common.{◌≡◌, ℕ, ◌+◌, ◌<◌, ◌≤◌, min, Bool, true, false, ltb, List, [], ◌∷◌, drop, Some, None, Option, sym, refl, ap, ◌∙◌, arith}
+use Rattle.std.proofs.Common.{◌≡◌, ℕ, ◌+◌, ◌<◌, ◌≤◌, min, Bool, true, false, ltb, List, [], ◌∷◌, drop, Some, None, Option, sym, refl, ap, ◌∙◌}
 use Rattle.std.proofs.lemmas.Bool.{lt-ltb, le-ltb}
 use Rattle.refusals.specs.Outcomes.{refused, taken, settle}
 use Rattle.text.specs.declared.places.Place.{Place}
@@ -25,7 +25,7 @@ module _ (u : ℕ → ℕ) (t : List ℕ) (n c : ℕ) where
   along_some q e = by (seek u (drop n t) c) e
     where
       by : (o : Option ℕ) → taken q ≡ settle ((13, is_none o) ∷ []) (tt {0}) (n + or0 o) → (is_none o ≡ false) × (n + or0 o ≡ q)
-      by None e = let z : ◌≡◌ {A = ℕ} 0 1 = cc in absurd (omega arith)
+      by None e = absurd (cc)
       by (Some m) e = (refl, cc)
 
   along_none : (k : ℕ) → refused k tt ≡ along_rule u t n c → (k ≡ 13) × (is_none (seek u (drop n t) c) ≡ true)
@@ -33,7 +33,7 @@ module _ (u : ℕ → ℕ) (t : List ℕ) (n c : ℕ) where
     where
       by : (o : Option ℕ) → refused k (tt {0}) ≡ settle ((13, is_none o) ∷ []) (tt {0}) (n + or0 o) → (k ≡ 13) × (is_none o ≡ true)
       by None e = (cc, refl)
-      by (Some m) e = let z : ◌≡◌ {A = ℕ} 0 1 = cc in absurd (omega arith)
+      by (Some m) e = absurd (cc)
 
 module _ (u : ℕ → ℕ) (t : List ℕ) (p : Position) where
   module _ (s : ℕ) (at : Some s ≡ start_of t p.line) where

@@ -10,12 +10,12 @@ pub data Starts : List ℕ → ℕ → ℕ → Type 0 where
   on : {b : ℕ} {t : List ℕ} {k n : ℕ} → ends b t ≡ false → Starts t (suc k) n → Starts (b ∷ t) (suc k) (suc n)
 
 later_some : (o : Option ℕ) (n : ℕ) → later o ≡ Some n → (m : ℕ) × (o ≡ Some m) × (suc m ≡ n)
-later_some None n e = let z : ◌≡◌ {A = ℕ} 0 1 = cc in absurd (omega arith)
+later_some None n e = absurd (cc)
 later_some (Some m) n e = (m, refl, cc)
 
 pub starts : (t : List ℕ) (k n : ℕ) → start_of t k ≡ Some n → Starts t k n
 starts t zero n e = let z : 0 ≡ n = cc in subst (Starts t 0) z here
-starts [] (suc k) n e = let z : ◌≡◌ {A = ℕ} 0 1 = cc in absurd (omega arith)
+starts [] (suc k) n e = absurd (cc)
 starts (b ∷ t) (suc k) n e =
     let f = later_some _ n e in
     ⊎_elim

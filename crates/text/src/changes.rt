@@ -10,6 +10,8 @@ use crate::positions::places;
 use refusals::Refusal;
 use utf8::well_formed;
 
+// A text is kept in memory that is lent for one call, and its length by whoever lends it: nothing here owns a text.
+
 // The most bytes that a text has, and the memory that is lent to keep one.
 pub const TEXT_LIMIT: usize = 8192;
 
@@ -35,6 +37,7 @@ pub fn holds_text(memory: &[u8], length: usize) -> bool
 
 // Replaces the range of the text in the first `length` bytes of the memory by the inserted text, and answers the
 // new length. A refusal leaves every byte as it was; bytes past `TEXT_LIMIT` are never written.
+#[tactic(auto, using(crate::proofs::Lawful::changes_of_texts_are_texts, crate::proofs::Lawful::earlier_lines_stay))]
 pub fn change<E: PositionEncoding>(
     encoding: &E,
     memory: &mut [u8],

@@ -36,6 +36,8 @@ pub fn line_count(text: &[u8]) -> usize
     count
 }
 
+// Lines are counted over places, not over bytes: whether a line ends behind a byte turns on the byte after it.
+
 // Where the line starts, counted from 0, none where the text has no such line.
 pub fn line_start(text: &[u8], line: u32) -> Option<Place>
     ensures start { place_in result ≡ start_of text.now line }

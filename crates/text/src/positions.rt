@@ -1,4 +1,5 @@
-// Positions: from a line and a column to a place, in any encoding.
+// Positions: from a line and a column to a place, in any encoding. The encoding and the text stay two parameters: an
+// end keeps the one and lends the other for a call.
 ghost use Rattle.std.specs.Prelude.{◌≡◌, ◌≤◌, min, length, drop, IfSome};
 ghost use Rattle.refusals.specs.Outcomes.{outcome};
 ghost use Rattle.text.specs.Columns.{wide, line_units, seek};
@@ -59,6 +60,7 @@ fn place_along<E: PositionEncoding>(
 }
 
 // The place of a position.
+#[tactic(auto, using(crate::proofs::Lawful::places_count_their_column, crate::proofs::Lawful::inside_means_no_such_column))]
 pub fn resolve<E: PositionEncoding>(
     encoding: &E,
     text: &[u8],
@@ -88,6 +90,7 @@ fn measure<E: PositionEncoding>(encoding: &E, bytes: &[u8], most: Column) -> Col
 }
 
 // The character of a position, cut to its line's length.
+#[tactic(auto, using(crate::proofs::Lawful::units_are_of_characters))]
 pub fn cut<E: PositionEncoding>(
     encoding: &E,
     text: &[u8],

@@ -26,6 +26,7 @@ fn is_second(first: u8, b: u8) -> bool
     }
 }
 
+// One function a length: they differ in how many bytes they take apart, and a loop over these would hide the ranges.
 fn two(bytes: &[u8]) -> Option<char>
     requires low { 192 ≤ slice_index bytes.now 0 }
     requires high { slice_index bytes.now 0 < 224 }
@@ -101,6 +102,7 @@ pub fn well_formed(text: &[u8]) -> bool
     ensures table { TableIsUtf8 }
 {
     let mut rest = text;
+    // no `for`: a character takes one to four bytes off
     while !rest.is_empty() {
         let Some(c) = character(rest) else {
             return false;

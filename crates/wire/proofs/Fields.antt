@@ -9,7 +9,7 @@ use Rattle.wire.specs.Words.{word_at, word_of, bytes_of, field_at, words, Fittin
 
 pub some_if : {X : Type 0} (b : Bool) (o : Option X) (x : X) → Some x ≡ cond b o None → (b ≡ true) × (Some x ≡ o)
 some_if true o x e = (refl, e)
-some_if false o x e = let z : ◌≡◌ {A = ℕ} 0 1 = cc in absurd (omega arith)
+some_if false o x e = absurd (cc)
 
 module _ (bs : List ℕ) (i kind low high v : ℕ) (e : Some v ≡ field_at bs i kind low high) where
   there : (i + 4 ≤ length bs) × (word_at bs i / 268435456 ≡ kind) × (low ≤ word_at bs i % 268435456) × (word_at bs i % 268435456 ≤ high) × (v ≡ word_at bs i % 268435456)

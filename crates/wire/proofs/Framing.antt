@@ -51,7 +51,7 @@ module _ (bs : List ℕ) (start : ℕ) (e : header_rule bs ≡ taken start) wher
 
 module _ {S : Type 0} (reads : List ℕ → Option S) (bs : List ℕ) (m : S) where
   some_told : (o : Option S) → told o ≡ taken m → o ≡ Some m
-  some_told None e = let z : ◌≡◌ {A = ℕ} 0 1 = cc in absurd (omega arith)
+  some_told None e = absurd (cc)
   some_told (Some x) e = cc
 
   -- bytes that are read as a message are the frame of a body that is
@@ -59,5 +59,5 @@ module _ {S : Type 0} (reads : List ℕ → Option S) (bs : List ℕ) (m : S) wh
   frame_read {R} e k = by (header_rule bs) refl e
     where
       by : (o : Outcome (Unit {0}) ℕ) → header_rule bs ≡ o → behind reads bs o ≡ taken m → R
-      by (refused j x) h e = let z : ◌≡◌ {A = ℕ} 0 1 = cc in absurd (omega arith)
+      by (refused j x) h e = absurd (cc)
       by (taken start) h e = k (drop start bs) start refl (framed_back bs start h) (some_told (reads (drop start bs)) e)

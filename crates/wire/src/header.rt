@@ -76,6 +76,7 @@ fn header_end(frame: &[u8], n: usize) -> Option<usize>
 
 // Where the body of a frame begins: 4 where the header is not as laid out, 5 where the bytes behind it are not as many as
 // it says.
+#[tactic(auto, using(crate::proofs::Announcing::headers_announce))]
 pub fn body_start(frame: &[u8]) -> Result<usize, Refusal>
     ensures start { outcome (λ n. n) result tt ≡ header_rule frame.now }
     ensures headers { HeadersAnnounce }

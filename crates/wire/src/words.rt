@@ -46,7 +46,8 @@ fn word_at(body: &[u8], at: usize) -> Option<u32>
     }
 }
 
-// The value of the word at a place, if there is one, it is of that kind, and it lies between `low` and `high`.
+// The value of the word at a place, if there is one, it is of that kind, and it lies between `low` and `high`. The kind is
+// a number: a `Kind` would ask more of who calls.
 pub fn field(body: &[u8], at: usize, kind: u32, low: u32, high: u32) -> Option<u32>
     ensures { result ≡ field_at body.now at kind low high }
 {
