@@ -15,9 +15,6 @@ module _ (u : ℕ → ℕ) (next : Next) (t list : List ℕ) where
   abbrev last : List (ℕ × Bool)
   last = (18, ltb token_limit (length (tokens next t))) ∷ []
 
-  pub short_list : length list < list_limit → refused 1 list ≡ code_rule u next t list
-  short_list h = sym (cond-true _ _ _ (lt-ltb _ _ h))
-
   module _ (room : list_limit ≤ length list) where
     text_next : settle (text_checks t ++ last) list done ≡ code_rule u next t list
     text_next = sym (cond-false _ _ _ (le-ltb _ _ room))

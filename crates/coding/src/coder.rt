@@ -17,7 +17,7 @@ pub const TOKEN_LIMIT: usize = 512;
 
 pub const LIST_LIMIT: usize = 2560;
 
-// One token's five numbers.
+// One token's five numbers, where there is room for them.
 fn put(numbers: &mut Growing<'_, u32>, token: [u32; 5])
     requires { numbers.old.used + 5 ≤ length numbers.old.slots.now }
     ensures items { take numbers.new.used numbers.new.slots.now ≡ take numbers.old.used numbers.old.slots.now ++ token }

@@ -10,7 +10,7 @@ unfolding fresh tokens
 loop-token-init g c =
     let u = g.E.PositionEncoding.units c.args.encoding.now in
     let t = c.args.text.now in
-    let all = c.into_iter-token-iterator.ensures.into_iter_gives ∙ c.new-token-items.ensures in
+    let all : c.into_iter-token-iterator.result ≡ tokens (g.L.Language.next c.args.language.now) t = c.into_iter-token-iterator.ensures.into_iter_gives ∙ c.new-token-items.ensures in
     record {
       can = tt;
       ends = tt;
@@ -50,8 +50,8 @@ overflow_sub-units g c =
     let k = c.in-Some.token in
     let first = next_left (g.met.L.Language.lawful c.args.language.now) t c.requires.text _ _ _ _ c.loop-token.invariant.left c.in-Some.ensures.steps in
     let there : c.advance-end.result.at ≡ end k = omega arith in
-    let start = c.advance-start.ensures.there.column ∙ ap (λ n. column_of u t n 0) c.advance-start.ensures.at in
-    let stop = c.advance-end.ensures.there.column ∙ ap (λ n. column_of u t n 0) there in
+    let start : c.advance-start.result.column ≡ column_of u t k.place.0 0 = c.advance-start.ensures.there.column ∙ ap (λ n. column_of u t n 0) c.advance-start.ensures.at in
+    let stop : c.advance-end.result.column ≡ column_of u t (end k) 0 = c.advance-end.ensures.there.column ∙ ap (λ n. column_of u t n 0) there in
     omega (arith, start, stop, units_between u t _ _ k first.0)
 
 pub put-requires : goal.put-requires
@@ -69,9 +69,9 @@ loop-token-preserved g c =
     let others = c.next.new.self in
     let first = next_left (g.met.L.Language.lawful c.args.language.now) t c.requires.text _ _ _ _ inv.left c.in-Some.ensures.steps in
     let there : c.advance-end.result.at ≡ end k = omega arith in
-    let line = c.advance-start.ensures.there.line ∙ ap (line_of t) c.advance-start.ensures.at in
-    let column = c.advance-start.ensures.there.column ∙ ap (λ n. column_of u t n 0) c.advance-start.ensures.at in
-    let stop = c.advance-end.ensures.there.column ∙ ap (λ n. column_of u t n 0) there in
+    let line : c.advance-start.result.line ≡ line_of t k.place.0 = c.advance-start.ensures.there.line ∙ ap (line_of t) c.advance-start.ensures.at in
+    let column : c.advance-start.result.column ≡ column_of u t k.place.0 0 = c.advance-start.ensures.there.column ∙ ap (λ n. column_of u t n 0) c.advance-start.ensures.at in
+    let stop : c.advance-end.result.column ≡ column_of u t (end k) 0 = c.advance-end.ensures.there.column ∙ ap (λ n. column_of u t n 0) there in
     let so_far = sym (ap (λ r. old ++ code before.line before.column (map (placed u t) r)) c.in-Some.ensures.steps) ∙ inv.so_far in
     record {
       can = tt;
