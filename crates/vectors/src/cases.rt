@@ -32,9 +32,10 @@ fn answer_lines(heap: Global, fields: &[u8]) -> Result<Option<String>, AllocErro
     let text = bytes.as_slice();
     let count = line_count(text);
     let mut answer = format!(in heap; "{count}")?;
-    let lines = (0..u32::MAX).map_while(|line| line_start(text, line).zip(line_content(
-        text, line,
-    )));
+    let lines = (0..u32::MAX).map_while(|line| {
+        let start = line_start(text, line)?;
+        Some((start, line_content(text, line)?))
+    });
     for (start, content) in lines {
         let place = start.0;
         let length = content.len();
