@@ -4,73 +4,85 @@
 ghost use Rattle.std.specs.Prelude.{◌≡◌};
 ghost use Rattle.refusals.specs.Numbers.{number_of};
 
+use std::error::Error;
+use std::fmt;
+
 // One case for each number, in their order: a call answers the first that fits.
 #[derive(Clone, Copy, Debug, PartialEq, Eq)]
 pub enum Refusal {
     // Memory is shorter than stated, a stored text is ill-formed, or a sent frame's heading passes its area.
-    Memory,
+    Memory = 1,
     // The list of sent frames that the call may add to has no place left.
-    ListFull,
+    ListFull = 2,
     // The list has no frame of that number.
-    NoFrame,
+    NoFrame = 3,
     // The header is not as laid out.
-    Header,
+    Header = 4,
     // The bytes after the header are not as many as it says.
-    BodyLength,
+    BodyLength = 5,
     // The body is no message for this end, or a value is out of its range.
-    Body,
+    Body = 6,
     // A text is over 8,192 bytes.
-    LongText,
+    LongText = 7,
     // A text is ill-formed.
-    IllFormed,
+    IllFormed = 8,
     // The end's document is shut, or, where the laptop opens one, it is not.
-    DocumentState,
+    DocumentState = 9,
     // The opening is not this end's own, or, at the node's Open, not above it.
-    Opening,
+    Opening = 10,
     // The version does not fit the end's own.
-    Version,
+    Version = 11,
     // A position's line is not there.
-    NoLine,
+    NoLine = 12,
     // A position falls inside a character.
-    InsideCharacter,
+    InsideCharacter = 13,
     // The start of a change lies after its end.
-    StartAfterEnd,
+    StartAfterEnd = 14,
     // The changed text would pass 8,192 bytes.
-    ResultTooLong,
+    ResultTooLong = 15,
     // A question waits, or none does, or another than the one that is answered.
-    Waiting,
+    Waiting = 16,
     // A token list's length, base or splice does not fit.
-    ListShape,
+    ListShape = 17,
     // The text has over 512 tokens.
-    TooManyTokens,
+    TooManyTokens = 18,
     // The next opening, version or request would pass its range.
-    Exhausted,
+    Exhausted = 19,
 }
 
 impl Refusal {
     pub fn number(self) -> u32
         ensures { result ≡ number_of self }
     {
-        match self {
-            Refusal::Memory => 1,
-            Refusal::ListFull => 2,
-            Refusal::NoFrame => 3,
-            Refusal::Header => 4,
-            Refusal::BodyLength => 5,
-            Refusal::Body => 6,
-            Refusal::LongText => 7,
-            Refusal::IllFormed => 8,
-            Refusal::DocumentState => 9,
-            Refusal::Opening => 10,
-            Refusal::Version => 11,
-            Refusal::NoLine => 12,
-            Refusal::InsideCharacter => 13,
-            Refusal::StartAfterEnd => 14,
-            Refusal::ResultTooLong => 15,
-            Refusal::Waiting => 16,
-            Refusal::ListShape => 17,
-            Refusal::TooManyTokens => 18,
-            Refusal::Exhausted => 19,
-        }
+        self as u32
     }
 }
+
+// What a refusal says, in a few words.
+impl fmt::Display for Refusal {
+    fn fmt<W: fmt::Write>(&self, f: &mut fmt::Formatter<W>) -> fmt::Result {
+        f.write_str(match self {
+            Refusal::Memory => "memory is shorter than stated, or a stored text is ill-formed",
+            Refusal::ListFull => "the list of sent frames is full",
+            Refusal::NoFrame => "no frame of that number",
+            Refusal::Header => "the header is not as laid out",
+            Refusal::BodyLength => "the bytes after the header are not as many as it says",
+            Refusal::Body => "the body is no message for this end",
+            Refusal::LongText => "a text is over 8,192 bytes",
+            Refusal::IllFormed => "a text is ill-formed",
+            Refusal::DocumentState => "the document is shut, or open already",
+            Refusal::Opening => "the opening is not this end's",
+            Refusal::Version => "the version does not fit",
+            Refusal::NoLine => "a position's line is not there",
+            Refusal::InsideCharacter => "a position falls inside a character",
+            Refusal::StartAfterEnd => "the start lies after the end",
+            Refusal::ResultTooLong => "the new text would pass 8,192 bytes",
+            Refusal::Waiting => "a question waits, or none does",
+            Refusal::ListShape => "a token list does not fit",
+            Refusal::TooManyTokens => "over 512 tokens",
+            Refusal::Exhausted => "a number would pass its range",
+        })
+    }
+}
+
+impl Error for Refusal {}

@@ -14,6 +14,17 @@ frame_limit = 10301
 abbrev pub frame : Up → List ℕ
 frame m = frame_of (body_of m)
 
+-- the slice has room for any frame, each value of the message is in its range, and its text is no longer than a text may be
+pub record Writable (slice : List ℕ) (m : Up) : Type 0 where
+  pub room : frame_limit ≤ length slice
+  pub in_range : ranged m ≡ true
+  pub short : length (text_of m) ≤ limit
+
+-- the message's frame of n bytes is written over the front of a slice, and all else in it stays
+pub record Writes (old new : List ℕ) (m : Up) (n : ℕ) : Type 0 where
+  pub size : n ≡ length (frame m)
+  pub bytes : new ≡ over old 0 (frame m)
+
 -- what a written frame leaves: its length, and the slice with exactly its bytes written over the front
 pub record Written : Type 0 where
   pub size : ℕ

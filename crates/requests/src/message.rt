@@ -1,6 +1,28 @@
 // The messages that go up.
 use text::places::Range;
 
+// The number of each message.
+pub(crate) const OPEN: u32 = 1;
+
+pub(crate) const TYPE: u32 = 2;
+
+pub(crate) const REPLACE: u32 = 3;
+
+pub(crate) const SAVE: u32 = 4;
+
+pub(crate) const CLOSE: u32 = 5;
+
+pub(crate) const ASK_FULL: u32 = 6;
+
+pub(crate) const ASK_DELTA: u32 = 7;
+
+// The largest opening; the largest version, request and result; the largest of any other value.
+pub(crate) const OPENING_LIMIT: u32 = 4095;
+
+pub(crate) const COUNT_LIMIT: u32 = 65_535;
+
+pub(crate) const VALUE_LIMIT: u32 = 0x0FFF_FFFF;
+
 // A message as it is read: its text is that part of the frame itself.
 #[derive(Clone, Copy)]
 pub enum Request<'a> {

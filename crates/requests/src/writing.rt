@@ -1,110 +1,103 @@
 // Writing the messages that go up: one function a message.
-ghost use Rattle.std.specs.Prelude.{◌≡◌, ◌≤◌, true, length};
+ghost use Rattle.std.specs.Prelude.{◌≡◌, length};
 ghost use Rattle.refusals.specs.Outcomes.{outcome};
-ghost use Rattle.wire.specs.Words.{over};
 ghost use Rattle.requests.specs.Messages.{meaning, ranged, text_of, openings, counts, positions, up_open, up_type, up_replace, up_save, up_close, up_ask_full, up_ask_delta};
-ghost use Rattle.requests.specs.Frames.{frame as frame_for, write_rule, leaves, WrittenIsRead, FramesAreShort};
+ghost use Rattle.requests.specs.Frames.{write_rule, Writable, Writes, leaves, WrittenIsRead, FramesAreShort};
 
-use crate::message::Request;
+use crate::message::{
+    ASK_DELTA, ASK_FULL, CLOSE, COUNT_LIMIT, OPEN, OPENING_LIMIT, REPLACE, Request, SAVE, TYPE,
+    VALUE_LIMIT,
+};
 use refusals::Refusal;
 use text::changes::TEXT_LIMIT;
 use text::places::{Position, Range};
 use wire::frames::{FRAME_LIMIT, put_frame};
-use wire::words::Word;
+use wire::words::Kind;
 
 fn write_open(frame: &mut [u8], opening: u32, text: &[u8]) -> usize
-    requires room { 10301 ≤ length frame.old }
-    requires ranged { ranged (up_open opening text.now) ≡ true }
-    requires short { length text.now ≤ 8192 }
-    ensures size { result ≡ length (frame_for (up_open opening text.now)) }
-    ensures bytes { frame.new ≡ over frame.old 0 (frame_for (up_open opening text.now)) }
+    requires { Writable frame.old (up_open opening text.now) }
+    ensures { Writes frame.old frame.new (up_open opening text.now) result }
 {
     let words = [
-        Word(1, 1),
-        Word(2, opening),
-        Word(3, 1),
-        Word(8, text.len() as u32),
+        Kind::Message.word(OPEN),
+        Kind::Opening.word(opening),
+        Kind::Version.word(1),
+        Kind::TextLength.word(text.len() as u32),
     ];
     put_frame(frame, &words, text)
 }
 
 fn write_type(frame: &mut [u8], opening: u32, version: u32, range: Range, text: &[u8]) -> usize
-    requires room { 10301 ≤ length frame.old }
-    requires ranged { ranged (up_type opening version range text.now) ≡ true }
-    requires short { length text.now ≤ 8192 }
-    ensures size { result ≡ length (frame_for (up_type opening version range text.now)) }
-    ensures bytes { frame.new ≡ over frame.old 0 (frame_for (up_type opening version range text.now)) }
+    requires { Writable frame.old (up_type opening version range text.now) }
+    ensures { Writes frame.old frame.new (up_type opening version range text.now) result }
 {
     let words = [
-        Word(1, 2),
-        Word(2, opening),
-        Word(3, version),
-        Word(4, range.start.line),
-        Word(5, range.start.character.0),
-        Word(4, range.end.line),
-        Word(5, range.end.character.0),
-        Word(8, text.len() as u32),
+        Kind::Message.word(TYPE),
+        Kind::Opening.word(opening),
+        Kind::Version.word(version),
+        Kind::Line.word(range.start.line),
+        Kind::Character.word(range.start.character.0),
+        Kind::Line.word(range.end.line),
+        Kind::Character.word(range.end.character.0),
+        Kind::TextLength.word(text.len() as u32),
     ];
     put_frame(frame, &words, text)
 }
 
 fn write_replace(frame: &mut [u8], opening: u32, version: u32, text: &[u8]) -> usize
-    requires room { 10301 ≤ length frame.old }
-    requires ranged { ranged (up_replace opening version text.now) ≡ true }
-    requires short { length text.now ≤ 8192 }
-    ensures size { result ≡ length (frame_for (up_replace opening version text.now)) }
-    ensures bytes { frame.new ≡ over frame.old 0 (frame_for (up_replace opening version text.now)) }
+    requires { Writable frame.old (up_replace opening version text.now) }
+    ensures { Writes frame.old frame.new (up_replace opening version text.now) result }
 {
     let words = [
-        Word(1, 3),
-        Word(2, opening),
-        Word(3, version),
-        Word(8, text.len() as u32),
+        Kind::Message.word(REPLACE),
+        Kind::Opening.word(opening),
+        Kind::Version.word(version),
+        Kind::TextLength.word(text.len() as u32),
     ];
     put_frame(frame, &words, text)
 }
 
 fn write_save(frame: &mut [u8], opening: u32, version: u32) -> usize
-    requires room { 10301 ≤ length frame.old }
-    requires ranged { ranged (up_save opening version) ≡ true }
-    ensures size { result ≡ length (frame_for (up_save opening version)) }
-    ensures bytes { frame.new ≡ over frame.old 0 (frame_for (up_save opening version)) }
+    requires { Writable frame.old (up_save opening version) }
+    ensures { Writes frame.old frame.new (up_save opening version) result }
 {
-    let words = [Word(1, 4), Word(2, opening), Word(3, version)];
+    let words = [
+        Kind::Message.word(SAVE),
+        Kind::Opening.word(opening),
+        Kind::Version.word(version),
+    ];
     put_frame(frame, &words, &[])
 }
 
 fn write_close(frame: &mut [u8], opening: u32) -> usize
-    requires room { 10301 ≤ length frame.old }
-    requires ranged { ranged (up_close opening) ≡ true }
-    ensures size { result ≡ length (frame_for (up_close opening)) }
-    ensures bytes { frame.new ≡ over frame.old 0 (frame_for (up_close opening)) }
+    requires { Writable frame.old (up_close opening) }
+    ensures { Writes frame.old frame.new (up_close opening) result }
 {
-    let words = [Word(1, 5), Word(2, opening)];
+    let words = [Kind::Message.word(CLOSE), Kind::Opening.word(opening)];
     put_frame(frame, &words, &[])
 }
 
 fn write_ask_full(frame: &mut [u8], opening: u32, request: u32) -> usize
-    requires room { 10301 ≤ length frame.old }
-    requires ranged { ranged (up_ask_full opening request) ≡ true }
-    ensures size { result ≡ length (frame_for (up_ask_full opening request)) }
-    ensures bytes { frame.new ≡ over frame.old 0 (frame_for (up_ask_full opening request)) }
+    requires { Writable frame.old (up_ask_full opening request) }
+    ensures { Writes frame.old frame.new (up_ask_full opening request) result }
 {
-    let words = [Word(1, 6), Word(2, opening), Word(6, request)];
+    let words = [
+        Kind::Message.word(ASK_FULL),
+        Kind::Opening.word(opening),
+        Kind::Request.word(request),
+    ];
     put_frame(frame, &words, &[])
 }
 
 fn write_ask_delta(frame: &mut [u8], opening: u32, request: u32, held: u32) -> usize
-    requires room { 10301 ≤ length frame.old }
-    requires ranged { ranged (up_ask_delta opening request held) ≡ true }
-    ensures size { result ≡ length (frame_for (up_ask_delta opening request held)) }
-    ensures bytes { frame.new ≡ over frame.old 0 (frame_for (up_ask_delta opening request held)) }
+    requires { Writable frame.old (up_ask_delta opening request held) }
+    ensures { Writes frame.old frame.new (up_ask_delta opening request held) result }
 {
     let words = [
-        Word(1, 7),
-        Word(2, opening),
-        Word(6, request),
-        Word(7, held),
+        Kind::Message.word(ASK_DELTA),
+        Kind::Opening.word(opening),
+        Kind::Request.word(request),
+        Kind::Result.word(held),
     ];
     put_frame(frame, &words, &[])
 }
@@ -112,20 +105,20 @@ fn write_ask_delta(frame: &mut [u8], opening: u32, request: u32, held: u32) -> u
 fn is_opening(n: u32) -> bool
     ensures { result ≡ openings n }
 {
-    1 <= n && n <= 4095
+    (1..=OPENING_LIMIT).contains(&n)
 }
 
 // A version, a request or a result.
 fn is_count(n: u32) -> bool
     ensures { result ≡ counts n }
 {
-    1 <= n && n <= 65535
+    (1..=COUNT_LIMIT).contains(&n)
 }
 
 fn is_position(position: Position) -> bool
     ensures { result ≡ positions position }
 {
-    position.line <= 0x0FFF_FFFF && position.character.0 <= 0x0FFF_FFFF
+    position.line <= VALUE_LIMIT && position.character.0 <= VALUE_LIMIT
 }
 
 // Whether each value of the message is in its range.
@@ -163,19 +156,16 @@ fn text_size(message: Request<'_>) -> usize
     ensures { result ≡ length (text_of (meaning message.entry)) }
 {
     match message {
-        Request::Open { text, .. } => text.len(),
-        Request::Type { text, .. } => text.len(),
-        Request::Replace { text, .. } => text.len(),
+        Request::Open { text, .. } | Request::Type { text, .. } | Request::Replace { text, .. } => {
+            text.len()
+        }
         _ => 0,
     }
 }
 
 fn write_message(frame: &mut [u8], message: Request<'_>) -> usize
-    requires room { 10301 ≤ length frame.old }
-    requires ranged { ranged (meaning message) ≡ true }
-    requires short { length (text_of (meaning message)) ≤ 8192 }
-    ensures size { result ≡ length (frame_for (meaning message.entry)) }
-    ensures bytes { frame.new ≡ over frame.old 0 (frame_for (meaning message.entry)) }
+    requires { Writable frame.old (meaning message) }
+    ensures { Writes frame.old frame.new (meaning message.entry) result }
 {
     match message {
         Request::Open { opening, text } => write_open(frame, opening, text),

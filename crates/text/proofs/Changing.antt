@@ -2,9 +2,11 @@
 use Rattle.std.proofs.Common.{◌≡◌, ℕ, ◌+◌, ◌-◌, ◌<◌, ◌≤◌, Bool, true, false, cond, eqb, ltb, List, [], ◌∷◌, ◌++◌, length, take, drop, Some, None, Option, sym, refl, ap, ◌∙◌, ⊎_elim, arith, length-drop}
 use Rattle.std.proofs.lemmas.List.{take-append-le, take-append-drop, take-take, length-take-le, drop_at}
 use Rattle.std.proofs.lemmas.Bool.{cond-true, cond-false, cond_both, both_ways, or_parts, lt-ltb, le-ltb, ltb-false, cases_lt, not-false}
-use Rattle.refusals.specs.Outcomes.{refused, taken, settle}
+use Rattle.std.specs.Option.{ok_or}
+use Rattle.refusals.specs.declared.Refusal.TheVariants.{ResultTooLong}
+use Rattle.refusals.specs.Outcomes.{refused, taken, settle, outcome}
 use Rattle.refusals.proofs.Settles.{settle_on, settle_stop, settle_taken, settle_passes}
-use Rattle.lists.specs.Splices.{kept, holds, replaced, splice_rule}
+use Rattle.lists.specs.Splices.{kept, holds, ended, replaced, splice_rule}
 use Rattle.lists.proofs.Splicing.{held, stays, fits_from, fits_size, replaced_length}
 use Rattle.text.specs.declared.places.Position.{Position}
 use Rattle.text.specs.declared.places.Range.{Range}
@@ -128,7 +130,7 @@ module _ (u : ℕ → ℕ) (m : List ℕ) (n : ℕ) (r : Range) (new : List ℕ)
             ap length (typed_is u text r a b is new) ∙ replaced_length text new a b (omega (arith, in_order u text r a b is, end_within u text r a b is))
             ∙ ap (λ (k : ℕ). a + length new + (k - b)) text_length
 
-        pub changed : (k : ℕ) (s : List ℕ) → length s ≡ limit → holds k (take k s) ≡ splice_rule (take limit m) n a b new
+        changed : (k : ℕ) (s : List ℕ) → length s ≡ limit → holds k (take k s) ≡ splice_rule (take limit m) n a b new
             → taken (leaves (s ++ drop limit m) k) ≡ change_rule u m n r new
         changed k s long e =
             let h = held (take limit m) new a b n k (take k s) e in
@@ -140,7 +142,7 @@ module _ (u : ℕ → ℕ) (m : List ℕ) (n : ℕ) (r : Range) (new : List ℕ)
             let fine : ltb limit (length (typed u text r new)) ≡ false = le-ltb limit _ (omega (arith, h.1, kept_length)) in
             (λ i. taken (record { size = size i; text = front i; beyond = back i })) ∙ sym (cond-false _ _ _ fine) ∙ size_next
 
-        pub too_long : (s : List ℕ) → kept s ≡ splice_rule (take limit m) n a b new → refused 15 (s ++ drop limit m) ≡ change_rule u m n r new
+        too_long : (s : List ℕ) → kept s ≡ splice_rule (take limit m) n a b new → refused 15 (s ++ drop limit m) ≡ change_rule u m n r new
         too_long s e =
             let h = stays (take limit m) new a b n s e in
             let whole : s ++ drop limit m ≡ m = ap (λ x. x ++ drop limit m) h.1 ∙ take-append-drop limit m in
@@ -150,3 +152,9 @@ module _ (u : ℕ → ℕ) (m : List ℕ) (n : ℕ) (r : Range) (new : List ℕ)
             (cases_lt limit (a + length new + (n - b))) in
             let long : ltb limit (length (typed u text r new)) ≡ true = lt-ltb limit _ (omega (arith, new_length)) in
             ap (refused 15) whole ∙ sym (cond-true _ _ _ long) ∙ size_next
+
+        -- what the call answers of the splice
+        pub spliced : (o : Option ℕ) (s : List ℕ) → length s ≡ limit → ended o s ≡ splice_rule (take limit m) n a b new
+            → outcome (leaves (s ++ drop limit m)) (ok_or o ResultTooLong) (s ++ drop limit m) ≡ change_rule u m n r new
+        spliced None s long e = too_long s e
+        spliced (Some k) s long e = changed k s long e

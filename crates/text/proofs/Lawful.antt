@@ -101,7 +101,7 @@ module _ (u : ℕ → ℕ) where
 
   wide_inside : (v : ℕ) (r : List ℕ) → wide u (next v ∷ r) ≡ 0
   unfolding wide
-  wide_inside v r = ap (counted u) (sym (first_is (next v ∷ r) None (no_char (next v ∷ r) 0 (λ g. omega (arith, (g.second (omega arith)).1.least)))))
+  wide_inside v r = ap (counted u) (sym (first_is (next v ∷ r) None (no_char (next v ∷ r) (λ g. omega (arith, (g.second (omega arith)).1.least)))))
 
   -- a character counts its units, once
   units_char : (c : ℕ) (r : List ℕ) (n : ℕ) → scalar c ≡ true → units_of u (encode c ++ r) (length (encode c) + n) ≡ u c + units_of u r n

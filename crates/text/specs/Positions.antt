@@ -37,6 +37,10 @@ module _ (u : ℕ → ℕ) where
   unfoldable pub place_of : List ℕ → Position → ℕ
   place_of t p = or0 (start_of t p.line) + or0 (seek u (line_at t p) p.character.0)
 
+  -- the place of column c of the line that starts at place n
+  abbrev pub along_rule : List ℕ → ℕ → ℕ → Outcome (Unit {0}) ℕ
+  along_rule t n c = settle ((13, is_none (seek u (drop n t) c)) ∷ []) tt (n + or0 (seek u (drop n t) c))
+
   abbrev pub resolve_rule : List ℕ → Position → Outcome (Unit {0}) ℕ
   resolve_rule t p = settle ((12, no_line t p) ∷ ((13, inside t p) ∷ [])) tt (place_of t p)
 

@@ -30,10 +30,7 @@ pub fn check(text: &[u8]) -> Result<(), Refusal>
 pub fn holds_text(memory: &[u8], length: usize) -> bool
     ensures { result ≡ not (unsound memory.now length) }
 {
-    if memory.len() < TEXT_LIMIT || length > TEXT_LIMIT {
-        return false;
-    }
-    well_formed(&memory[0..length])
+    memory.len() >= TEXT_LIMIT && length <= TEXT_LIMIT && well_formed(&memory[..length])
 }
 
 // Replaces the range of the text in the first `length` bytes of the memory by the inserted text, and answers the
@@ -53,15 +50,13 @@ pub fn change<E: PositionEncoding>(
         return Err(Refusal::Memory);
     }
     check(inserted)?;
-    let span = places(encoding, &memory[0..length], range)?;
-    match lists::splice(
+    let span = places(encoding, &memory[..length], range)?;
+    lists::splice(
         &mut memory[0..TEXT_LIMIT],
         length,
         span.start.0,
         span.end.0,
         inserted,
-    ) {
-        Some(size) => Ok(size),
-        None => Err(Refusal::ResultTooLong),
-    }
+    )
+    .ok_or(Refusal::ResultTooLong)
 }

@@ -3,30 +3,36 @@ ghost use Rattle.std.specs.Prelude.{◌≡◌, ℕ};
 ghost use Rattle.text.specs.Units.{Counts, utf8_units, utf16_units, utf32_units, utf8_counts, utf16_counts, utf32_counts};
 
 // An encoding is a value that is asked for the units of a character; asking has no effect. Its meaning is `units`.
-// Each constant stands beside a ghost member for clauses; a method that answers the constant ties the two.
+// Each constant has a ghost member of its name, for clauses; the two are proved equal in each encoding.
 pub trait PositionEncoding {
+    ghost NAME: { ℕ };
+
+    ghost LARGEST: { ℕ };
+
     // The number that names the encoding.
     const NAME: u32;
 
     // The most units that one character counts.
     const LARGEST: u32;
 
-    ghost label: { ℕ };
-
-    ghost most: { ℕ };
-
     ghost units: { Self → ℕ → ℕ };
 
     fn units_of(&self, c: char) -> u32
         ensures { result ≡ units self.now c };
 
-    fn stated_name(&self) -> u32
-        ensures { result ≡ label };
+    ghost counts: { (e : Self) → Counts (units e) LARGEST };
 
-    fn stated_largest(&self) -> u32
-        ensures { result ≡ most };
+    final fn stated_name(&self) -> u32
+        ensures { result ≡ NAME }
+    {
+        Self::NAME
+    }
 
-    ghost counts: { (e : Self) → Counts (units e) most };
+    final fn stated_largest(&self) -> u32
+        ensures { result ≡ LARGEST }
+    {
+        Self::LARGEST
+    }
 }
 
 #[derive(Clone, Copy)]
@@ -37,9 +43,9 @@ impl PositionEncoding for Utf8Units {
 
     const LARGEST: u32 = 4;
 
-    ghost label = { 8 };
+    ghost NAME = { 8 };
 
-    ghost most = { 4 };
+    ghost LARGEST = { 4 };
 
     ghost units = { λ _. utf8_units };
 
@@ -53,14 +59,6 @@ impl PositionEncoding for Utf8Units {
             _ => 4,
         }
     }
-
-    fn stated_name(&self) -> u32 {
-        Self::NAME
-    }
-
-    fn stated_largest(&self) -> u32 {
-        Self::LARGEST
-    }
 }
 
 #[derive(Clone, Copy)]
@@ -71,9 +69,9 @@ impl PositionEncoding for Utf16Units {
 
     const LARGEST: u32 = 2;
 
-    ghost label = { 16 };
+    ghost NAME = { 16 };
 
-    ghost most = { 2 };
+    ghost LARGEST = { 2 };
 
     ghost units = { λ _. utf16_units };
 
@@ -81,14 +79,6 @@ impl PositionEncoding for Utf16Units {
 
     fn units_of(&self, c: char) -> u32 {
         if c < '\u{10000}' { 1 } else { 2 }
-    }
-
-    fn stated_name(&self) -> u32 {
-        Self::NAME
-    }
-
-    fn stated_largest(&self) -> u32 {
-        Self::LARGEST
     }
 }
 
@@ -100,9 +90,9 @@ impl PositionEncoding for Utf32Units {
 
     const LARGEST: u32 = 1;
 
-    ghost label = { 32 };
+    ghost NAME = { 32 };
 
-    ghost most = { 1 };
+    ghost LARGEST = { 1 };
 
     ghost units = { λ _. utf32_units };
 
@@ -110,13 +100,5 @@ impl PositionEncoding for Utf32Units {
 
     fn units_of(&self, _c: char) -> u32 {
         1
-    }
-
-    fn stated_name(&self) -> u32 {
-        Self::NAME
-    }
-
-    fn stated_largest(&self) -> u32 {
-        Self::LARGEST
     }
 }

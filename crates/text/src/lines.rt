@@ -1,6 +1,6 @@
 // Lines: LF, CR LF as one end, CR.
-ghost use Rattle.std.specs.Prelude.{◌≡◌, ◌+◌, ◌≤◌, length, drop};
-ghost use Rattle.text.specs.Lines.{is_end, ends_at, start_of, line_count, content, content_of, place_in, bytes_in, CountedLinesAreThere};
+ghost use Rattle.std.specs.Prelude.{◌≡◌, ◌≤◌, length, drop, IfSome, position};
+ghost use Rattle.text.specs.Lines.{is_end, ends_at, start_of, line_count, content_of, place_in, bytes_in, CountedLinesAreThere};
 
 use crate::places::Place;
 
@@ -8,19 +8,16 @@ use crate::places::Place;
 pub(crate) fn is_line_end(b: u8) -> bool
     ensures { result ≡ is_end b }
 {
-    b == b'\n' || b == b'\r'
+    matches!(b, b'\n' | b'\r')
 }
 
 // Whether a line ends right after the byte at the place: LF, or CR with no LF behind it. Past the text none does.
 pub fn ends_line(text: &[u8], at: usize) -> bool
     ensures { result ≡ ends_at (drop at text.now) }
 {
-    if at >= text.len() {
-        return false;
-    }
-    match text[at] {
-        b'\n' => true,
-        b'\r' => at + 1 == text.len() || text[at + 1] != b'\n',
+    match text.get(at..) {
+        Some([b'\r', next, ..]) => *next != b'\n',
+        Some([b, ..]) => is_line_end(*b),
         _ => false,
     }
 }
@@ -41,45 +38,34 @@ pub fn line_count(text: &[u8]) -> usize
 
 // Where the line starts, counted from 0, none where the text has no such line.
 pub fn line_start(text: &[u8], line: u32) -> Option<Place>
-    ensures { place_in result ≡ start_of text.now line }
+    ensures start { place_in result ≡ start_of text.now line }
+    ensures within { IfSome result (λ p. p.0 ≤ length text.now) }
 {
     let mut left = line;
-    let mut at = 0;
-    while left > 0 {
-        if at == text.len() {
-            return None;
+    for at in 0..text.len() {
+        if left == 0 {
+            return Some(Place(at));
         }
         if ends_line(text, at) {
             left -= 1;
         }
-        at += 1;
     }
-    Some(Place(at))
+    (left == 0).then_some(Place(text.len()))
 }
 
-// Where the content of the line ends that starts at the place.
-fn content_end(text: &[u8], start: Place) -> usize
-    requires { start.0 ≤ length text.now }
-    ensures { result ≡ start.0 + length (content (drop start.0 text.now)) }
+// The first byte of a line end.
+fn first_line_end(bytes: &[u8]) -> Option<usize>
+    ensures { result ≡ position is_end bytes.now }
 {
-    let mut at = start.0;
-    while at < text.len() {
-        if is_line_end(text[at]) {
-            break;
-        }
-        at += 1;
-    }
-    at
+    bytes.iter().position(|b| is_line_end(*b))
 }
 
 // The content of the line, without its end: a part of the text itself.
 pub fn line_content(text: &[u8], line: u32) -> Option<&[u8]>
     ensures { bytes_in result ≡ content_of text.now line }
 {
-    let Some(place) = line_start(text, line) else {
-        return None;
-    };
-    let start = place.0;
-    let end = content_end(text, place);
+    let start = line_start(text, line)?.0;
+    let rest = &text[start..];
+    let end = start + first_line_end(rest).unwrap_or(rest.len());
     Some(&text[start..end])
 }

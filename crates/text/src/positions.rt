@@ -1,10 +1,9 @@
 // Positions: from a line and a column to a place, in any encoding.
-ghost use Rattle.std.specs.Prelude.{◌≡◌, ◌≤◌, min, length, drop};
+ghost use Rattle.std.specs.Prelude.{◌≡◌, ◌≤◌, min, length, drop, IfSome};
 ghost use Rattle.refusals.specs.Outcomes.{outcome};
-ghost use Rattle.text.specs.Lines.{place_in, ahead};
 ghost use Rattle.text.specs.Columns.{wide, line_units, seek};
 ghost use Rattle.text.specs.Laws.{PlacesLieBetweenCharacters, PlacesCountTheirColumn, InsideMeansNoSuchColumn, CutPositionsKeepTheirPlace, UnitsAreOfCharacters};
-ghost use Rattle.text.specs.Positions.{resolve_rule, cut_rule, range_rule};
+ghost use Rattle.text.specs.Positions.{along_rule, resolve_rule, cut_rule, range_rule};
 
 use crate::encodings::PositionEncoding;
 use crate::lines::{is_line_end, line_start};
@@ -22,34 +21,41 @@ pub fn units_at<E: PositionEncoding>(encoding: &E, text: &[u8], at: usize) -> u3
     }
 }
 
-// The place that many units into the line that starts at the place, or the end of its content if it has fewer; none
-// inside a character. It goes byte by byte: a byte inside a character counts nothing.
-fn walk<E: PositionEncoding>(
-    encoding: &E,
-    text: &[u8],
-    start: Place,
-    character: Column,
-) -> Option<Place>
-    requires { start.0 ≤ length text.now }
-    ensures { place_in result ≡ ahead start.0 (seek (E.units encoding.now) (drop start.0 text.now) character.0) }
+// How many bytes into the line that the bytes begin with its column is, or where the line's content ends if it has fewer
+// units; none inside a character. It goes byte by byte: a byte inside a character counts nothing.
+fn walk<E: PositionEncoding>(encoding: &E, bytes: &[u8], character: Column) -> Option<usize>
+    ensures place { result ≡ seek (E.units encoding.now) bytes.now character.0 }
+    ensures within { IfSome result (λ n. n ≤ length bytes.now) }
 {
     let mut left = character.0;
-    let mut at = start.0;
-    while at < text.len() {
-        if is_line_end(text[at]) {
-            break;
+    for (at, b) in bytes.iter().enumerate() {
+        if is_line_end(*b) {
+            return Some(at);
         }
-        let units = units_at(encoding, text, at);
+        let units = units_at(encoding, bytes, at);
         if units > 0 && left == 0 {
-            break;
+            return Some(at);
         }
         if left < units {
             return None;
         }
         left -= units;
-        at += 1;
     }
-    Some(Place(at))
+    Some(bytes.len())
+}
+
+// The place of a column of the line that starts at the place.
+fn place_along<E: PositionEncoding>(
+    encoding: &E,
+    text: &[u8],
+    start: Place,
+    character: Column,
+) -> Result<Place, Refusal>
+    requires { start.0 ≤ length text.now }
+    ensures { outcome (λ p. p.0) result tt ≡ along_rule (E.units encoding.now) text.now start.0 character.0 }
+{
+    let along = walk(encoding, &text[start.0..], character).ok_or(Refusal::InsideCharacter)?;
+    Ok(Place(start.0 + along))
 }
 
 // The place of a position.
@@ -63,28 +69,20 @@ pub fn resolve<E: PositionEncoding>(
     ensures column { PlacesCountTheirColumn }
     ensures inner { InsideMeansNoSuchColumn }
 {
-    let Some(start) = line_start(text, position.line) else {
-        return Err(Refusal::NoLine);
-    };
-    let Some(place) = walk(encoding, text, start, position.character) else {
-        return Err(Refusal::InsideCharacter);
-    };
-    Ok(place)
+    let start = line_start(text, position.line).ok_or(Refusal::NoLine)?;
+    place_along(encoding, text, start, position.character)
 }
 
-// The units of the content of the line that starts at the place, or `most` if there are more.
-fn measure<E: PositionEncoding>(encoding: &E, text: &[u8], start: Place, most: Column) -> Column
-    requires { start.0 ≤ length text.now }
-    ensures { result.0 ≡ min most.0 (line_units (E.units encoding.now) (drop start.0 text.now)) }
+// The units of the content of the line that the bytes begin with, or `most` if there are more.
+fn measure<E: PositionEncoding>(encoding: &E, bytes: &[u8], most: Column) -> Column
+    ensures { result.0 ≡ min most.0 (line_units (E.units encoding.now) bytes.now) }
 {
     let mut left = most.0;
-    let mut at = start.0;
-    while at < text.len() {
-        if is_line_end(text[at]) {
+    for (at, b) in bytes.iter().enumerate() {
+        if is_line_end(*b) {
             break;
         }
-        left = left.saturating_sub(units_at(encoding, text, at));
-        at += 1;
+        left = left.saturating_sub(units_at(encoding, bytes, at));
     }
     Column(most.0 - left)
 }
@@ -99,28 +97,18 @@ pub fn cut<E: PositionEncoding>(
     ensures place { CutPositionsKeepTheirPlace }
     ensures characters { UnitsAreOfCharacters }
 {
-    let Some(start) = line_start(text, position.line) else {
-        return Err(Refusal::NoLine);
-    };
-    Ok(measure(encoding, text, start, position.character))
+    let start = line_start(text, position.line).ok_or(Refusal::NoLine)?;
+    Ok(measure(encoding, &text[start.0..], position.character))
 }
 
 // The places of a range. Each number is tried over both positions before the next.
 pub fn places<E: PositionEncoding>(encoding: &E, text: &[u8], range: Range) -> Result<Span, Refusal>
     ensures { outcome (λ s. (s.start.0, s.end.0)) result tt ≡ range_rule (E.units encoding.now) text.now range }
 {
-    let Some(first) = line_start(text, range.start.line) else {
-        return Err(Refusal::NoLine);
-    };
-    let Some(last) = line_start(text, range.end.line) else {
-        return Err(Refusal::NoLine);
-    };
-    let Some(start) = walk(encoding, text, first, range.start.character) else {
-        return Err(Refusal::InsideCharacter);
-    };
-    let Some(end) = walk(encoding, text, last, range.end.character) else {
-        return Err(Refusal::InsideCharacter);
-    };
+    let first = line_start(text, range.start.line).ok_or(Refusal::NoLine)?;
+    let last = line_start(text, range.end.line).ok_or(Refusal::NoLine)?;
+    let start = place_along(encoding, text, first, range.start.character)?;
+    let end = place_along(encoding, text, last, range.end.character)?;
     if end.0 < start.0 {
         return Err(Refusal::StartAfterEnd);
     }

@@ -1,10 +1,9 @@
 -- The bytes of a character. Assumes nothing.
-use Rattle.std.proofs.Common.{◌≡◌, ℕ, ◌+◌, ◌-◌, ◌*◌, ◌/◌, ◌^◌, ◌<◌, ◌≤◌, true, ltb, ◌⊎◌, List, [], ◌∷◌, ◌++◌, length, get_or, drop, sym, ap, ◌∙◌, subst, inl, inr, ⊎_elim, lt_of_lt_of_le, arith, length-append, length-drop, get_or-drop, drop_at, pow_mono}
+use Rattle.std.proofs.Common.{◌≡◌, ℕ, ◌+◌, ◌-◌, ◌*◌, ◌/◌, ◌^◌, ◌<◌, ◌≤◌, true, ltb, ◌⊎◌, List, [], ◌∷◌, ◌++◌, length, get_or, drop, sym, ap, ◌∙◌, subst, inl, inr, ⊎_elim, lt_of_lt_of_le, arith, length-append, drop_at, pow_mono}
 use lib.Count.{count_leading_zeros}
 use lib.Utf8.{scalar, encode, next, low_scalar, scalar_cases}
 use Rattle.std.specs.Char.{len_utf8}
-use Rattle.std.proofs.lemmas.Str.{length-encode}
-use Rattle.std.proofs.lemmas.List.{drop_more}
+use Rattle.std.proofs.lemmas.Str.{length-encode, len_utf8_bounds}
 use Rattle.std.proofs.lemmas.Bool.{cond-true, cond-false, lt-ltb, le-ltb, cases_lt, cases_eq}
 use Rattle.std.proofs.lemmas.Bool.Decides.{nat_tests}
 use Rattle.std.proofs.lemmas.Nat.{leading_length, leading_le}
@@ -67,66 +66,60 @@ begins_from l r c s e =
     let d : drop (len_utf8 c) l ≡ r = ap (drop (len_utf8 c)) e ∙ drop_at (encode c) r (len_utf8 c) w in
     record { is_scalar = s; fits = omega arith; splits = e ∙ ap (λ t. encode c ++ t) (sym d) }
 
-module _ (bs : List ℕ) (at : ℕ) where
-  pub no_char : (Ranged (length bs - at) (get_or bs at 0) (get_or bs (at + 1) 0) (get_or bs (at + 2) 0) (get_or bs (at + 3) 0) → ⊥) → NoChar (drop at bs)
-  no_char h c r s e =
-      let first : get_or (drop at bs) 0 0 ≡ get_or bs at 0 = get_or-drop at bs 0 0 ∙ ap (λ n. get_or bs n 0) (let k : at + 0 ≡ at = omega arith in k) in
-      let there : RangedAt (drop at bs) = subst RangedAt (sym e) (ranged c r s) in
-      h (rw (← length-drop at bs, ← first, ← get_or-drop at bs 1 0, ← get_or-drop at bs 2 0, ← get_or-drop at bs 3 0) there)
+-- bytes that are out of the ranges begin no character
+pub no_char : (bs : List ℕ) → (RangedAt bs → ⊥) → NoChar bs
+no_char bs h c r s e = h (subst RangedAt (sym e) (ranged c r s))
+
+-- no bytes begin none
+pub none_begins : (bs : List ℕ) → length bs < 1 → NoChar bs
+none_begins bs l c r s e =
+    let n : length bs ≡ len_utf8 c + length r = ap length e ∙ length-append (encode c) r ∙ ap (λ m. m + length r) (length-encode c) in
+    omega (arith, len_utf8_bounds c)
 
 -- bytes in the ranges make a character
-module _ (bs : List ℕ) (at : ℕ) where
-  pub begins_one : at < length bs → get_or bs at 0 < 128 → Begins (drop at bs) (get_or bs at 0)
-  begins_one l h = let c : ℕ = get_or bs at 0 in begins_from _ (drop (at + 1) bs) c (low_scalar c (omega arith)) (drop_more bs at 0 l ∙ ap (λ p. p ++ drop (at + 1) bs) (sym (enc_one c h)))
+pub begins_one : (bs : List ℕ) → 0 < length bs → get_or bs 0 0 < 128 → Begins bs (get_or bs 0 0)
+begins_one [] l h = absurd (omega arith)
+begins_one (a ∷ r) l h = begins_from _ r a (low_scalar a (omega arith)) (ap (λ p. p ++ r) (sym (enc_one a h)))
 
-  step : (k : ℕ) → at + k < length bs → drop (at + k) bs ≡ get_or bs (at + k) 0 ∷ drop (at + (k + 1)) bs
-  step k h = let e : at + k + 1 ≡ at + (k + 1) = omega arith in drop_more bs (at + k) 0 h ∙ ap (λ (n : ℕ). get_or bs (at + k) 0 ∷ drop n bs) e
+pub begins_two : (bs : List ℕ) → 1 < length bs → get_or bs 0 0 < 224 → Second (get_or bs 0 0) (get_or bs 1 0) → Begins bs ((get_or bs 0 0 - 192) * 64 + (get_or bs 1 0 - 128))
+begins_two [] l u s = absurd (omega arith)
+begins_two (x ∷ []) l u s = absurd (omega arith)
+begins_two (x ∷ y ∷ r) l u s =
+    let c : ℕ = (x - 192) * 64 + (y - 128) in
+    let p : x ≡ 192 + c / 64 = omega arith in
+    let q : y ≡ next c = omega arith in
+    begins_from _ r c (low_scalar c (omega arith)) ((λ k. p k ∷ q k ∷ r) ∙ ap (λ t. t ++ r) (sym (enc_two c (omega arith) (omega arith))))
 
-  pub begins_two : at + 1 < length bs → get_or bs at 0 < 224 → Second (get_or bs at 0) (get_or bs (at + 1) 0) → Begins (drop at bs) ((get_or bs at 0 - 192) * 64 + (get_or bs (at + 1) 0 - 128))
-  begins_two l u s =
-      let x : ℕ = get_or bs at 0 in
-      let y : ℕ = get_or bs (at + 1) 0 in
-      let c : ℕ = (x - 192) * 64 + (y - 128) in
-      let r : List ℕ = drop (at + 2) bs in
-      let p : x ≡ 192 + c / 64 = omega arith in
-      let q : y ≡ next c = omega arith in
-      begins_from _ r c (low_scalar c (omega arith))
-      (drop_more bs at 0 (omega arith) ∙ ap (λ t. x ∷ t) (step 1 l) ∙ (λ k. p k ∷ q k ∷ r) ∙ ap (λ t. t ++ r) (sym (enc_two c (omega arith) (omega arith))))
+pub begins_three : (bs : List ℕ) → 2 < length bs → 224 ≤ get_or bs 0 0 → get_or bs 0 0 < 240 → Second (get_or bs 0 0) (get_or bs 1 0) → Follows (get_or bs 2 0)
+    → Begins bs ((get_or bs 0 0 - 224) * 4096 + (get_or bs 1 0 - 128) * 64 + (get_or bs 2 0 - 128))
+begins_three [] l h u s f = absurd (omega arith)
+begins_three (x ∷ []) l h u s f = absurd (omega arith)
+begins_three (x ∷ y ∷ []) l h u s f = absurd (omega arith)
+begins_three (x ∷ y ∷ z ∷ r) l h u s f =
+    let c : ℕ = (x - 224) * 4096 + (y - 128) * 64 + (z - 128) in
+    let lo : 2048 ≤ c = ⊎_elim (λ e. omega (arith, s.e0 e)) (λ e. omega arith) (cases_eq x 224) in
+    let range : (c < 55296) ⊎ (57344 ≤ c) = ⊎_elim (λ e. inl (omega (arith, s.ed e))) (λ e. ⊎_elim (λ g. inl (omega arith)) (λ g. inr (omega arith)) (cases_lt x 237)) (cases_eq x 237) in
+    let p : x ≡ 224 + c / 4096 = omega arith in
+    let q : y ≡ next (c / 64) = omega arith in
+    let t : z ≡ next c = omega arith in
+    begins_from _ r c (grind (arith, nat_tests)) ((λ k. p k ∷ q k ∷ t k ∷ r) ∙ ap (λ t. t ++ r) (sym (enc_three c lo (omega arith))))
 
-  pub begins_three : at + 2 < length bs → 224 ≤ get_or bs at 0 → get_or bs at 0 < 240 → Second (get_or bs at 0) (get_or bs (at + 1) 0) → Follows (get_or bs (at + 2) 0)
-      → Begins (drop at bs) ((get_or bs at 0 - 224) * 4096 + (get_or bs (at + 1) 0 - 128) * 64 + (get_or bs (at + 2) 0 - 128))
-  begins_three l h u s f =
-      let x : ℕ = get_or bs at 0 in
-      let y : ℕ = get_or bs (at + 1) 0 in
-      let z : ℕ = get_or bs (at + 2) 0 in
-      let c : ℕ = (x - 224) * 4096 + (y - 128) * 64 + (z - 128) in
-      let r : List ℕ = drop (at + 3) bs in
-      let lo : 2048 ≤ c = ⊎_elim (λ e. omega (arith, s.e0 e)) (λ e. omega arith) (cases_eq x 224) in
-      let range : (c < 55296) ⊎ (57344 ≤ c) = ⊎_elim (λ e. inl (omega (arith, s.ed e))) (λ e. ⊎_elim (λ g. inl (omega arith)) (λ g. inr (omega arith)) (cases_lt x 237)) (cases_eq x 237) in
-      let p : x ≡ 224 + c / 4096 = omega arith in
-      let q : y ≡ next (c / 64) = omega arith in
-      let t : z ≡ next c = omega arith in
-      begins_from _ r c (grind (arith, nat_tests))
-      (drop_more bs at 0 (omega arith) ∙ ap (λ t. x ∷ t) (step 1 (omega arith) ∙ ap (λ t. y ∷ t) (step 2 l)) ∙ (λ k. p k ∷ q k ∷ t k ∷ r) ∙ ap (λ t. t ++ r) (sym (enc_three c lo (omega arith))))
-
-  pub begins_four : at + 3 < length bs → 240 ≤ get_or bs at 0 → Second (get_or bs at 0) (get_or bs (at + 1) 0) → Follows (get_or bs (at + 2) 0) → Follows (get_or bs (at + 3) 0)
-      → Begins (drop at bs) (((get_or bs at 0 - 240) * 64 + (get_or bs (at + 1) 0 - 128)) * 4096 + (get_or bs (at + 2) 0 - 128) * 64 + (get_or bs (at + 3) 0 - 128))
-  begins_four l h s f g =
-      let x : ℕ = get_or bs at 0 in
-      let y : ℕ = get_or bs (at + 1) 0 in
-      let z : ℕ = get_or bs (at + 2) 0 in
-      let w : ℕ = get_or bs (at + 3) 0 in
-      let c : ℕ = ((x - 240) * 64 + (y - 128)) * 4096 + (z - 128) * 64 + (w - 128) in
-      let r : List ℕ = drop (at + 4) bs in
-      let lo : 65536 ≤ c = ⊎_elim (λ e. omega (arith, s.f0 e)) (λ e. omega arith) (cases_eq x 240) in
-      let hi : c < 1114112 = ⊎_elim (λ e. omega (arith, s.f4 e)) (λ e. omega arith) (cases_eq x 244) in
-      let p : x ≡ 240 + c / 262144 = omega arith in
-      let q : y ≡ next (c / 4096) = omega arith in
-      let e : c / 64 ≡ ((x - 240) * 64 + (y - 128)) * 64 + (z - 128) = omega arith in
-      let t : z ≡ next (c / 64) = subst (λ (m : ℕ). z ≡ next m) (sym e) (omega arith) in
-      let v : w ≡ next c = omega arith in
-      begins_from _ r c (grind (arith, nat_tests))
-      (drop_more bs at 0 (omega arith) ∙ ap (λ t. x ∷ t) (step 1 (omega arith) ∙ ap (λ t. y ∷ t) (step 2 (omega arith) ∙ ap (λ t. z ∷ t) (step 3 l))) ∙ (λ k. p k ∷ q k ∷ t k ∷ v k ∷ r) ∙ ap (λ t. t ++ r) (sym (enc_four c lo)))
+pub begins_four : (bs : List ℕ) → 3 < length bs → 240 ≤ get_or bs 0 0 → Second (get_or bs 0 0) (get_or bs 1 0) → Follows (get_or bs 2 0) → Follows (get_or bs 3 0)
+    → Begins bs (((get_or bs 0 0 - 240) * 64 + (get_or bs 1 0 - 128)) * 4096 + (get_or bs 2 0 - 128) * 64 + (get_or bs 3 0 - 128))
+begins_four [] l h s f g = absurd (omega arith)
+begins_four (x ∷ []) l h s f g = absurd (omega arith)
+begins_four (x ∷ y ∷ []) l h s f g = absurd (omega arith)
+begins_four (x ∷ y ∷ z ∷ []) l h s f g = absurd (omega arith)
+begins_four (x ∷ y ∷ z ∷ w ∷ r) l h s f g =
+    let c : ℕ = ((x - 240) * 64 + (y - 128)) * 4096 + (z - 128) * 64 + (w - 128) in
+    let lo : 65536 ≤ c = ⊎_elim (λ e. omega (arith, s.f0 e)) (λ e. omega arith) (cases_eq x 240) in
+    let hi : c < 1114112 = ⊎_elim (λ e. omega (arith, s.f4 e)) (λ e. omega arith) (cases_eq x 244) in
+    let p : x ≡ 240 + c / 262144 = omega arith in
+    let q : y ≡ next (c / 4096) = omega arith in
+    let e : c / 64 ≡ ((x - 240) * 64 + (y - 128)) * 64 + (z - 128) = omega arith in
+    let t : z ≡ next (c / 64) = subst (λ (m : ℕ). z ≡ next m) (sym e) (omega arith) in
+    let v : w ≡ next c = omega arith in
+    begins_from _ r c (grind (arith, nat_tests)) ((λ k. p k ∷ q k ∷ t k ∷ v k ∷ r) ∙ ap (λ t. t ++ r) (sym (enc_four c lo)))
 
 module _ (b k : ℕ) (byte : b < 256) (is : k ≡ count_leading_zeros 8 (255 - b)) where
   pub at_ones : (n : ℕ) → k + n ≡ 8 → (255 - b < 2 ^ n) × (2 ^ n ≤ 2 * (255 - b) + 1)

@@ -1,14 +1,13 @@
 -- The character that begins a list of bytes, by its definition and by what it means. Assumes nothing.
-use Rattle.std.proofs.Common.{◌≡◌, ℕ, ◌+◌, ◌≤◌, true, ◌&&◌, eqb, List, [], ◌∷◌, ◌++◌, length, drop, Some, None, Option, sym, refl, ap, ◌∙◌, subst, ⊎_elim, arith, length-append, length-drop}
+use Rattle.std.proofs.Common.{◌≡◌, ℕ, ◌≤◌, true, ◌&&◌, eqb, List, [], ◌∷◌, ◌++◌, length, drop, Some, None, Option, sym, refl, ap, ◌∙◌, subst, ⊎_elim, arith, length-drop}
 use lib.Utf8.{scalar, encode}
-use Rattle.std.specs.Char.{len_utf8}
 use Rattle.std.specs.Str.{chars}
 use Rattle.std.specs.Option.{SomeIff}
 use Rattle.std.proofs.lemmas.List.{append-nil}
-use Rattle.std.proofs.lemmas.Str.{length-encode, len_utf8_bounds, encode_same, IsUtf8-encode, chars-append, chars-encodes}
+use Rattle.std.proofs.lemmas.Str.{encode_same, IsUtf8-encode, chars-append, chars-encodes}
 use Rattle.std.proofs.lemmas.Bool.{and_parts, and_from, eqb-true, eq-eqb, cases_Bool, cond-true, cond-false, both_ways, false≢true}
 use Rattle.utf8.specs.Characters.{begins_with, heads, first_char, Begins, First, FirstCharStands}
-use Rattle.utf8.proofs.Chars.{begins_from}
+use Rattle.utf8.proofs.Chars.{begins_from, none_begins}
 
 -- a list that begins with another is it and a rest
 prefix : (xs bs : List ℕ) → begins_with xs bs ≡ true → (r : List ℕ) × (bs ≡ xs ++ r)
@@ -64,7 +63,4 @@ from_checked bs v (Some c) b k = subst (Begins bs) (sym k.1) b
 
 -- past the end none begins
 pub first_none : (bs : List ℕ) (at : ℕ) → length bs ≤ at → None ≡ first_char (drop at bs)
-first_none bs at l = first_is (drop at bs) None (λ c rest s e.
-    let w = len_utf8_bounds c in
-    let n : length (drop at bs) ≡ len_utf8 c + length rest = ap length e ∙ length-append (encode c) rest ∙ ap (λ m. m + length rest) (length-encode c) in
-    omega (arith, length-drop at bs))
+first_none bs at l = first_is (drop at bs) None (none_begins (drop at bs) (omega (arith, length-drop at bs)))

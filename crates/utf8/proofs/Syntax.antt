@@ -42,21 +42,21 @@ after bs c n b w u = subst IsUtf8 (sym b.splits) (IsUtf8-append (encode c) _ (Is
 
 text_from : {bs : List ℕ} → Octets bs → IsUtf8 bs
 text_from none = IsUtf8-nil
-text_from (one a r h o) = after (a ∷ r) a 1 (begins_one (a ∷ r) 0 (omega arith) h) (grind (arith, nat_tests)) (text_from o)
+text_from (one a r h o) = after (a ∷ r) a 1 (begins_one (a ∷ r) (omega arith) h) (grind (arith, nat_tests)) (text_from o)
 text_from (two a b r h s o) =
     let c : ℕ = (a - 192) * 64 + (b - 128) in
     let l : 128 ≤ c = omega (arith, s.least) in
     let u : c < 2048 = omega (arith, s.high) in
-    after (a ∷ b ∷ r) c 2 (begins_two (a ∷ b ∷ r) 0 (omega arith) h s) (two_wide c l u) (text_from o)
+    after (a ∷ b ∷ r) c 2 (begins_two (a ∷ b ∷ r) (omega arith) h s) (two_wide c l u) (text_from o)
 text_from (three a b d r l h s t o) =
     let c : ℕ = (a - 224) * 4096 + (b - 128) * 64 + (d - 128) in
     let lo : 2048 ≤ c = ⊎_elim (λ e. omega (arith, s.e0 e)) (λ e. omega arith) (cases_eq a 224) in
     let u : c < 65536 = omega (arith, s.high) in
-    after (a ∷ b ∷ d ∷ r) c 3 (begins_three (a ∷ b ∷ d ∷ r) 0 (omega arith) l h s t) (three_wide c lo u) (text_from o)
+    after (a ∷ b ∷ d ∷ r) c 3 (begins_three (a ∷ b ∷ d ∷ r) (omega arith) l h s t) (three_wide c lo u) (text_from o)
 text_from (four a b d e r l s t v o) =
     let c : ℕ = ((a - 240) * 64 + (b - 128)) * 4096 + (d - 128) * 64 + (e - 128) in
     let lo : 65536 ≤ c = ⊎_elim (λ q. omega (arith, s.f0 q)) (λ q. omega arith) (cases_eq a 240) in
-    after (a ∷ b ∷ d ∷ e ∷ r) c 4 (begins_four (a ∷ b ∷ d ∷ e ∷ r) 0 (omega arith) l s t v) (four_wide c lo) (text_from o)
+    after (a ∷ b ∷ d ∷ e ∷ r) c 4 (begins_four (a ∷ b ∷ d ∷ e ∷ r) (omega arith) l s t v) (four_wide c lo) (text_from o)
 
 -- the bytes of a character, with what follows
 octets_more : (c : ℕ) (r : List ℕ) → scalar c ≡ true → Octets r → Octets (encode c ++ r)

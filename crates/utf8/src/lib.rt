@@ -1,20 +1,20 @@
 // UTF-8 after RFC 3629.
 #![tactic(auto)]
 
-ghost use Rattle.std.specs.Prelude.{◌≡◌, ◌<◌, ◌≤◌, length, drop, Decides, slice_index};
+ghost use Rattle.std.specs.Prelude.{◌≡◌, ◌↔◌, ◌<◌, ◌≤◌, drop, IsTrue, slice_index};
 ghost use Rattle.utf8.specs.Characters.{First, Second, first_char, FirstCharStands};
 ghost use Rattle.utf8.specs.Grammar.{Tail, well_formed, TableIsUtf8, TestDecidesUtf8};
 
 // Whether the byte goes on with a character.
-fn further(b: u8) -> bool
-    ensures { Decides result (Tail b) }
+fn is_tail(b: u8) -> bool
+    ensures { IsTrue result ↔ Tail b }
 {
-    0x80 <= b && b <= 0xBF
+    matches!(b, 0x80..=0xBF)
 }
 
 // Whether the byte may stand second after `first`: no overlong form, no surrogate, nothing above U+10FFFF.
-fn second(first: u8, b: u8) -> bool
-    ensures { Decides result (Second first b) }
+fn is_second(first: u8, b: u8) -> bool
+    ensures { IsTrue result ↔ Second first b }
 {
     match first {
         0x00..=0xC1 | 0xF5..=0xFF => false,
@@ -22,60 +22,65 @@ fn second(first: u8, b: u8) -> bool
         0xED => 0x80 <= b && b <= 0x9F,
         0xF0 => 0x90 <= b && b <= 0xBF,
         0xF4 => 0x80 <= b && b <= 0x8F,
-        _ => further(b),
+        _ => is_tail(b),
     }
 }
 
-fn two(text: &[u8], at: usize) -> Option<char>
-    requires { (at < length text.now) × (192 ≤ slice_index text.now at) × (slice_index text.now at < 224) }
-    ensures { First (drop at text.now) result }
+fn two(bytes: &[u8]) -> Option<char>
+    requires low { 192 ≤ slice_index bytes.now 0 }
+    requires high { slice_index bytes.now 0 < 224 }
+    ensures { First bytes.now result }
 {
-    if text.len() - at < 2 || !second(text[at], text[at + 1]) {
+    let [a, b, ..] = bytes else {
+        return None;
+    };
+    if !is_second(*a, *b) {
         return None;
     }
-    char::from_u32((text[at] as u32 - 0xC0) * 64 + (text[at + 1] as u32 - 0x80))
+    char::from_u32((*a as u32 - 0xC0) * 64 + (*b as u32 - 0x80))
 }
 
-fn three(text: &[u8], at: usize) -> Option<char>
-    requires { (at < length text.now) × (224 ≤ slice_index text.now at) × (slice_index text.now at < 240) }
-    ensures { First (drop at text.now) result }
+fn three(bytes: &[u8]) -> Option<char>
+    requires low { 224 ≤ slice_index bytes.now 0 }
+    requires high { slice_index bytes.now 0 < 240 }
+    ensures { First bytes.now result }
 {
-    if text.len() - at < 3 || !second(text[at], text[at + 1]) || !further(text[at + 2]) {
+    let [a, b, c, ..] = bytes else {
+        return None;
+    };
+    if !is_second(*a, *b) || !is_tail(*c) {
         return None;
     }
-    char::from_u32(
-        (text[at] as u32 - 0xE0) * 4096
-            + (text[at + 1] as u32 - 0x80) * 64
-            + (text[at + 2] as u32 - 0x80),
-    )
+    char::from_u32((*a as u32 - 0xE0) * 4096 + (*b as u32 - 0x80) * 64 + (*c as u32 - 0x80))
 }
 
-fn four(text: &[u8], at: usize) -> Option<char>
-    requires { (at < length text.now) × (240 ≤ slice_index text.now at) × (slice_index text.now at < 248) }
-    ensures { First (drop at text.now) result }
+fn four(bytes: &[u8]) -> Option<char>
+    requires low { 240 ≤ slice_index bytes.now 0 }
+    requires high { slice_index bytes.now 0 < 248 }
+    ensures { First bytes.now result }
 {
-    if text.len() - at < 4
-        || !second(text[at], text[at + 1])
-        || !further(text[at + 2])
-        || !further(text[at + 3])
-    {
+    let [a, b, c, d, ..] = bytes else {
+        return None;
+    };
+    if !is_second(*a, *b) || !is_tail(*c) || !is_tail(*d) {
         return None;
     }
-    let high = (text[at] as u32 - 0xF0) * 64 + (text[at + 1] as u32 - 0x80);
-    char::from_u32(high * 4096 + (text[at + 2] as u32 - 0x80) * 64 + (text[at + 3] as u32 - 0x80))
+    let high = (*a as u32 - 0xF0) * 64 + (*b as u32 - 0x80);
+    char::from_u32(high * 4096 + (*c as u32 - 0x80) * 64 + (*d as u32 - 0x80))
 }
 
-// The character that begins at a place of the text: the number of leading one bits in the first byte gives its length.
-fn character(text: &[u8], at: usize) -> Option<char>
-    requires { at < length text.now }
-    ensures { First (drop at text.now) result }
+// The character that begins the bytes: the number of leading one bits in the first of them gives its length.
+fn character(bytes: &[u8]) -> Option<char>
+    ensures { First bytes.now result }
 {
-    let b = text[at];
-    match b.leading_ones() {
-        0 => Some(b as char),
-        2 => two(text, at),
-        3 => three(text, at),
-        4 => four(text, at),
+    let [first, ..] = bytes else {
+        return None;
+    };
+    match first.leading_ones() {
+        0 => Some(*first as char),
+        2 => two(bytes),
+        3 => three(bytes),
+        4 => four(bytes),
         _ => None,
     }
 }
@@ -86,10 +91,7 @@ pub fn scalar_at(text: &[u8], at: usize) -> Option<char>
     ensures scalar { result ≡ first_char (drop at text.now) }
     ensures meaning { FirstCharStands }
 {
-    if at >= text.len() {
-        return None;
-    }
-    character(text, at)
+    character(text.get(at..)?)
 }
 
 // Whether the bytes are well-formed UTF-8.
@@ -98,12 +100,12 @@ pub fn well_formed(text: &[u8]) -> bool
     ensures decides { TestDecidesUtf8 }
     ensures table { TableIsUtf8 }
 {
-    let mut at = 0;
-    while at < text.len() {
-        let Some(c) = character(text, at) else {
+    let mut rest = text;
+    while !rest.is_empty() {
+        let Some(c) = character(rest) else {
             return false;
         };
-        at += c.len_utf8();
+        rest = &rest[c.len_utf8()..];
     }
     true
 }

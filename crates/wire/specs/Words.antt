@@ -1,6 +1,23 @@
 -- Words of 32 bits, most significant byte first: 4 bits of kind and 28 of value. Assumes nothing.
 use Rattle.std.specs.Prelude.{ℕ, ◌+◌, ◌*◌, ◌/◌, ◌%◌, ◌^◌, ◌<◌, cond, ◌&&◌, List, [], ◌∷◌, ◌++◌, length, take, drop, Some, None, Option, ◌==◌, nat_le, slice_index}
 use Rattle.wire.specs.declared.words.Word.{Word}
+use Rattle.wire.specs.declared.words.Kind.{Kind}
+use Rattle.wire.specs.declared.words.Kind.TheVariants.{Message, Opening, Version, Line, Character, Request, Result, TextLength}
+
+-- the number of each kind
+abbrev pub kind_number : Kind → ℕ
+kind_number Message = 1
+kind_number Opening = 2
+kind_number Version = 3
+kind_number Line = 4
+kind_number Character = 5
+kind_number Request = 6
+kind_number Result = 7
+kind_number TextLength = 8
+
+-- a word of a kind
+abbrev pub worded : Kind → ℕ → Word
+worded k v = record { 0 = kind_number k; 1 = v }
 
 -- the 32 bits at a place
 abbrev pub word_at : List ℕ → ℕ → ℕ

@@ -1,10 +1,14 @@
 // The header line of a frame.
-ghost use Rattle.std.specs.Prelude.{◌≡◌, ◌+◌, ◌≤◌, length, if◌then◌else◌, Some, None, decimal};
+ghost use Rattle.std.specs.Prelude.{◌≡◌, ◌+◌, ◌≤◌, length, take, if◌then◌else◌, Some, None, decimal};
+ghost use Rattle.std.specs.Char.{is_ascii_digit};
+ghost use Rattle.std.specs.List.{prefix_len};
+ghost use Rattle.std.specs.Str.Parse.{digits_value};
 ghost use Rattle.refusals.specs.Outcomes.{outcome};
 ghost use Rattle.wire.specs.Headers.{heading, announced, headed, header_rule, HeadersAnnounce};
 ghost use Rattle.wire.specs.Words.{over};
 
 use crate::words::put_bytes;
+use itoa::Buffer;
 use refusals::Refusal;
 
 // The most bytes of a body, and of a header.
@@ -18,16 +22,13 @@ fn put_decimal(out: &mut [u8], at: usize, n: usize) -> usize
     ensures next { result ≡ at + length (decimal n) }
     ensures bytes { out.new ≡ over out.old at (decimal n) }
 {
-    if n < 10 {
-        return put_bytes(out, at, &[b'0' + n as u8]);
-    }
-    let after = put_decimal(out, at, n / 10);
-    put_bytes(out, after, &[b'0' + (n % 10) as u8])
+    put_bytes(out, at, Buffer::new().format(n).as_bytes())
 }
 
 // Writes the header of a body of `n` bytes to the front, and answers the place behind it.
 pub fn put_header(out: &mut [u8], n: usize) -> usize
-    requires { (n ≤ 10276) × (25 ≤ length out.old) }
+    requires body { n ≤ 10276 }
+    requires room { 25 ≤ length out.old }
     ensures within { result ≤ 25 }
     ensures next { result ≡ length (heading n) }
     ensures bytes { out.new ≡ over out.old 0 (heading n) }
@@ -37,20 +38,27 @@ pub fn put_header(out: &mut [u8], n: usize) -> usize
     put_bytes(out, b, b"\r\n\r\n")
 }
 
+// The number that the digits at the front write.
+fn leading_number(bytes: &[u8]) -> usize
+    requires { length bytes.now ≤ 5 }
+    ensures { result ≡ digits_value 10 (take (prefix_len is_ascii_digit bytes.now) bytes.now) }
+{
+    let mut number = 0;
+    for b in bytes {
+        if !b.is_ascii_digit() {
+            break;
+        }
+        number = number * 10 + (*b - b'0') as usize;
+    }
+    number
+}
+
 // The number that the digits behind the label write, five at most.
 fn announced_size(frame: &[u8]) -> usize
     ensures { result ≡ announced frame.now }
 {
-    let mut size = 0;
-    let mut at = 16;
-    while at < 21 && at < frame.len() {
-        if !frame[at].is_ascii_digit() {
-            break;
-        }
-        size = size * 10 + (frame[at] - b'0') as usize;
-        at += 1;
-    }
-    size
+    let end = frame.len().min(21);
+    leading_number(&frame[end.min(16)..end])
 }
 
 // The place behind the header, where the frame begins with the one that announces a body of `n` bytes: there is no other
@@ -63,11 +71,7 @@ fn header_end(frame: &[u8], n: usize) -> Option<usize>
     }
     let mut header = [0; HEADER_LIMIT];
     let end = put_header(&mut header, n);
-    if frame.starts_with(&header[0..end]) {
-        Some(end)
-    } else {
-        None
-    }
+    frame.starts_with(&header[..end]).then_some(end)
 }
 
 // Where the body of a frame begins: 4 where the header is not as laid out, 5 where the bytes behind it are not as many as
@@ -77,9 +81,7 @@ pub fn body_start(frame: &[u8]) -> Result<usize, Refusal>
     ensures headers { HeadersAnnounce }
 {
     let size = announced_size(frame);
-    let Some(start) = header_end(frame, size) else {
-        return Err(Refusal::Header);
-    };
+    let start = header_end(frame, size).ok_or(Refusal::Header)?;
     if frame.len() != start + size {
         return Err(Refusal::BodyLength);
     }

@@ -1,30 +1,32 @@
-use Rattle.std.proofs.Common.{◌+◌, false, drop, sym, arith, length-drop}
-use Rattle.std.proofs.lemmas.Bool.Decides.{same_from_decides}
+use Rattle.std.proofs.Common.{◌≡◌, ◌<◌, false, length, drop, IsUtf8, sym, subst, ap, ◌∙◌, arith}
+use Rattle.std.proofs.lemmas.Bool.{false≢true}
+use Rattle.std.proofs.lemmas.Bool.Decides.{same_from_decides, nat_tests}
+use Rattle.std.proofs.lemmas.List.{nil_from_length}
+use Rattle.std.proofs.lemmas.Slice.{between_to_end}
+use Rattle.std.proofs.lemmas.Str.{IsUtf8-nil}
 use Rattle.utf8.specs.Grammar.{well_formed}
 use Rattle.utf8.proofs.Syntax.{test_decides_utf8, table_is_utf8}
-use Rattle.std.proofs.lemmas.Bool.{false≢true}
-use Rattle.utf8.specs.Characters.{Begins}
-use Rattle.utf8.proofs.Texts.{not_text, text_past, text_back, text_end}
+use Rattle.utf8.proofs.Texts.{not_text, text_past, text_back}
 use Rattle.utf8.proofs.well_formed.Goals as goal
 
 pub returns-in_default : goal.returns-in_default
 returns-in_default c =
-    let bs = c.args.text.now in
-    let at = c.loop-at.at in
-    let is = same_from_decides false (well_formed bs) (λ e. absurd (false≢true e), λ u. absurd (not_text (drop at bs) (omega (arith, length-drop at bs)) c.in_default.ensures (c.loop-at.invariant.1 u))) (test_decides_utf8 bs) in
+    let t = c.args.text.now in
+    let r = c.loop-rest.rest.now in
+    let some : 0 < length r = grind (arith, nat_tests) in
+    let is = same_from_decides false (well_formed t) (λ e. absurd (false≢true e), λ u. absurd (not_text r some c.in_default.ensures (c.loop-rest.invariant.0 u))) (test_decides_utf8 t) in
     record { test = is; decides = test_decides_utf8; table = table_is_utf8 }
 
-pub loop-at-preserved : goal.loop-at-preserved
-loop-at-preserved c =
-    let bs = c.args.text.now in
-    let at = c.loop-at.at in
-    let b : Begins (drop at bs) c.in-Some.c = c.in-Some.ensures in
-    let n = at + c.len_utf8-at.result in
-    let e = c.len_utf8-at.ensures.value in (
-      omega (arith, length-drop at bs, b.fits),
-      λ u. rw e (text_past bs at c.in-Some.c b (c.loop-at.invariant.1 u)),
-      λ u. c.loop-at.invariant.2 (text_back bs at c.in-Some.c b (rw e at u)),
+pub loop-rest-preserved : goal.loop-rest-preserved
+loop-rest-preserved c =
+    let r = c.loop-rest.rest.now in
+    let e = between_to_end r c.len_utf8.result (length r) (omega arith) ∙ ap (λ n. drop n r) c.len_utf8.ensures.value in (
+      λ u. subst IsUtf8 (sym e) (text_past r c.in-Some.c c.in-Some.ensures (c.loop-rest.invariant.0 u)),
+      λ u. c.loop-rest.invariant.1 (text_back r c.in-Some.c c.in-Some.ensures (subst IsUtf8 e u)),
     )
 
 pub returns : goal.returns
-returns c = record { test = sym ((test_decides_utf8 c.args.text.now).1 (c.loop-at.invariant.2 (text_end c.args.text.now c.loop-at.at (omega arith)))); decides = test_decides_utf8; table = table_is_utf8 }
+returns c =
+    let none : length c.loop-rest.rest.now ≡ 0 = grind (arith, nat_tests) in
+    let text = c.loop-rest.invariant.1 (subst IsUtf8 (sym (nil_from_length _ none)) IsUtf8-nil) in
+    record { test = sym ((test_decides_utf8 c.args.text.now).1 text); decides = test_decides_utf8; table = table_is_utf8 }

@@ -1,8 +1,9 @@
-use Rattle.std.proofs.Common.{◌-◌, ◌≤◌, length, drop, IsUtf8}
+use Rattle.std.proofs.Common.{◌↔◌, length, IsUtf8}
 use Rattle.utf8.proofs.well_formed.Given as goal
 
-abbrev pub invariant-loop-at : goal.invariant-loop-at
-invariant-loop-at l = (l.«at» ≤ length l.text) × (IsUtf8 l.text → IsUtf8 (drop l.«at» l.text)) × (IsUtf8 (drop l.«at» l.text) → IsUtf8 l.text)
+-- what is left is a text exactly where the whole is
+abbrev pub invariant-loop-rest : goal.invariant-loop-rest
+invariant-loop-rest l = IsUtf8 l.text ↔ IsUtf8 l.rest
 
-abbrev pub decreases-loop-at : goal.decreases-loop-at
-decreases-loop-at l = length l.text - l.«at»
+abbrev pub decreases-loop-rest : goal.decreases-loop-rest
+decreases-loop-rest l = length l.rest

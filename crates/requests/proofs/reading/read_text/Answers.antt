@@ -1,14 +1,11 @@
-use Rattle.std.proofs.Common.{◌+◌, Some, ap, ◌∙◌, arith}
-use Rattle.std.proofs.lemmas.List.{take_rest}
-use Rattle.wire.proofs.Fields.{field_high}
-use Rattle.requests.proofs.Telling.{text_told}
+use Rattle.std.proofs.Common.{length, ap, ◌∙◌, arith}
+use Rattle.std.proofs.lemmas.Slice.{between_to_end}
+use Rattle.wire.specs.Words.{field_at}
+use Rattle.requests.proofs.Telling.{text_behind}
 use Rattle.requests.proofs.reading.read_text.Goals as goal
-
-pub overflow_add-start-2 : goal.overflow_add-start-2
-overflow_add-start-2 c = omega (arith, field_high _ _ _ _ _ _ c.in_ok-count.ensures)
 
 pub returns : goal.returns
 returns c =
     let bs = c.args.body.now in
-    let at = c.args.at in
-    ap Some (take_rest bs (at + 4)) ∙ text_told bs at c.in_ok-count.count c.in_ok-count.ensures c.if-body-start.false
+    let rest = c.in_ok-get.ensures.lookup.0.2 ∙ between_to_end bs c.args.at (length bs) (omega arith) in
+    text_behind bs c.in_ok-get.field-0.now c.args.at c.in_ok-count.count (c.in_ok-count.ensures ∙ ap (λ k. field_at bs c.args.at k 0 268435455) c.number.ensures) c.in_ok-get.ensures.lookup.0.0 rest (omega arith) (omega arith)

@@ -1,40 +1,22 @@
-use Rattle.text.proofs.Placing.{line_there, line_within, stuck, placed, resolve_no_line, resolve_inside, resolve_placed}
+use Rattle.std.proofs.Common.{◌∙◌}
+use Rattle.text.proofs.Placing.{line_at_place, resolve_from}
 use Rattle.text.proofs.Lawful.{places_lie_between_characters, places_count_their_column, inside_means_no_such_column}
 use Rattle.text.proofs.positions.resolve.Goals as goal
 
-pub returns-in_default : goal.returns-in_default
-returns-in_default g c =
-    record {
-      place = resolve_no_line (g.E.PositionEncoding.units c.args.encoding.now) c.args.text.now c.args.position c.in_default.ensures;
-      between = places_lie_between_characters;
-      column = places_count_their_column;
-      inner = inside_means_no_such_column;
-    }
+pub returns-in_err-start-clause-between : goal.returns-in_err-start-clause-between
+returns-in_err-start-clause-between g c = places_lie_between_characters
 
-pub walk-requires : goal.walk-requires
-walk-requires g c = line_within (g.E.PositionEncoding.units c.args.encoding.now) c.args.text.now c.args.position c.in-Some.start.0 c.in-Some.ensures
+pub returns-in_err-start-clause-column : goal.returns-in_err-start-clause-column
+returns-in_err-start-clause-column g c = places_count_their_column
 
-pub returns-in_default-walk : goal.returns-in_default-walk
-returns-in_default-walk g c =
-    let u = g.E.PositionEncoding.units c.args.encoding.now in
-    let t = c.args.text.now in
-    let p = c.args.position in
-    let s = c.in-Some.start.0 in
-    record {
-      place = resolve_inside u t p (line_there u t p s c.in-Some.ensures) (stuck u t p s c.in-Some.ensures c.in_default-walk.ensures);
-      between = places_lie_between_characters;
-      column = places_count_their_column;
-      inner = inside_means_no_such_column;
-    }
+pub returns-in_err-start-clause-inner : goal.returns-in_err-start-clause-inner
+returns-in_err-start-clause-inner g c = inside_means_no_such_column
 
 pub returns : goal.returns
 returns g c =
-    let u = g.E.PositionEncoding.units c.args.encoding.now in
-    let t = c.args.text.now in
-    let p = c.args.position in
-    let q = c.in-Some-walk.place.0 in
+    let at = line_at_place _ _ _ c.in_ok-start.ensures.ok_part c.line_start.ensures.start in
     record {
-      place = resolve_placed u t p q (placed u t p c.in-Some.start.0 c.in-Some.ensures q c.in-Some-walk.ensures);
+      place = c.place_along.ensures ∙ resolve_from (g.E.PositionEncoding.units c.args.encoding.now) c.args.text.now c.args.position c.in_ok-start.start.0 at;
       between = places_lie_between_characters;
       column = places_count_their_column;
       inner = inside_means_no_such_column;

@@ -3,18 +3,14 @@ use Rattle.std.proofs.lemmas.Bool.Decides.{nat_tests}
 use Rattle.wire.specs.Words.{field_at}
 use Rattle.wire.proofs.words.field.Goals as goal
 
-pub returns-then-body-lt4 : goal.returns-then-body-lt4
+pub returns-in_err-word : goal.returns-in_err-word
 unfolding field_at
-returns-then-body-lt4 c = grind (arith, nat_tests)
-
-pub returns-then-at-body : goal.returns-then-at-body
-unfolding field_at
-returns-then-at-body c = grind (arith, nat_tests)
+returns-in_err-word c = grind (arith, nat_tests)
 
 pub returns-then-value-high : goal.returns-then-value-high
 unfolding field_at
 returns-then-value-high c = grind (arith, nat_tests)
 
-pub returns-else-w-kind : goal.returns-else-w-kind
+pub returns-else-word-kind : goal.returns-else-word-kind
 unfolding field_at
-returns-else-w-kind c = grind (arith, nat_tests)
+returns-else-word-kind c = grind (arith, nat_tests)
