@@ -20,7 +20,6 @@ mod calls;
 mod command;
 mod painting;
 mod session;
-mod words;
 
 use chosen::tongues::code_text;
 use coding::coder::LIST_LIMIT;
@@ -32,7 +31,6 @@ use refusals::Refusal;
 use session::Session;
 use std::io;
 use std::io::{Read, Write};
-use words::words_of;
 
 // How many calls were taken and refused.
 #[derive(Clone, Copy)]
@@ -59,11 +57,7 @@ fn report(
 ) -> io::Result<()> {
     match outcome {
         Ok(()) => println!(rt; "{number}: {word} -> 0 taken"),
-        Err(refusal) => {
-            let sent = refusal.number();
-            let words = words_of(refusal);
-            println!(rt; "{number}: {word} -> {sent} {words}")
-        }
+        Err(refusal) => { println!(rt; "{number}: {word} -> {} {refusal}", refusal.number()) }
     }
 }
 
