@@ -2,7 +2,7 @@
 use Rattle.std.proofs.Common.{◌≡◌, ℕ, ◌≤◌, List, ◌++◌, length, take, drop, Vec, ◌∙◌, arith}
 use Rattle.std.specs.Vec.{with_items}
 use Rattle.std.specs.declared.alloc.Global.{Global}
-use Rattle.std.proofs.lemmas.List.{take-take, take-append-le, length-append, length-take}
+use Rattle.std.proofs.lemmas.List.{take-take, take-append-le, length-append}
 
 -- the front of a vector whose first elements were written
 pub front : (v : Vec ℕ Global) (n : ℕ) (written rest : List ℕ) → n ≤ v.len → n ≤ length written → take n (with_items v (written ++ rest)).items ≡ take n written

@@ -11,6 +11,8 @@ use Rattle.text.specs.Lines.{line_count}
 use Rattle.text.specs.Positions.{limit, text_checks, range_checks, typed}
 use Rattle.commission.specs.declared.command.Call.{Call}
 use Rattle.commission.specs.declared.command.Call.TheVariants.{Open, Replace, «Type»}
+use Rattle.commission.specs.declared.command.Choice.{Choice}
+use Rattle.commission.specs.declared.command.Choice.TheVariants.{Encoding as ChosenEncoding, Language}
 use Rattle.commission.specs.declared.session.Session.{Session}
 use Rattle.chosen.specs.Names.{units_of}
 use Rattle.chosen.specs.declared.tongues.Tongue.{Tongue}
@@ -53,6 +55,10 @@ encoded e v = record { encoding = e; tongue = v.tongue; called = v.called; opene
 
 abbrev pub speaking : Tongue → View → View
 speaking t v = record { encoding = v.encoding; tongue = t; called = v.called; opened = v.opened; text = v.text; lent = v.lent }
+
+abbrev pub choosing : Choice → View → View
+choosing (ChosenEncoding e) v = encoded e v
+choosing (Language t) v = speaking t v
 
 abbrev pub lending : ℕ → View → View
 lending n v = record { encoding = v.encoding; tongue = v.tongue; called = v.called; opened = v.opened; text = v.text; lent = n }

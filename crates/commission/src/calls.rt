@@ -3,9 +3,9 @@ ghost use Rattle.std.specs.Prelude.{◌≡◌, ◌≤◌, not, length, Some, IfO
 ghost use Rattle.std.specs.Option.{option_map, unwrap_or, is_some};
 ghost use Rattle.refusals.specs.Outcomes.{outcome};
 ghost use Rattle.text.specs.Positions.{unsound};
-ghost use Rattle.commission.specs.Rules.{view, holding, started, encoded, speaking, at_hand, lending, calling, telling, told, open_rule, replace_rule, ready_rule, type_rule, call_rule};
+ghost use Rattle.commission.specs.Rules.{view, holding, started, choosing, at_hand, lending, calling, telling, told, open_rule, replace_rule, ready_rule, type_rule, call_rule};
 
-use crate::command::Call;
+use crate::command::{Call, Choice};
 use crate::session::Session;
 use chosen::texts::change;
 use chosen::tongues::Tongue;
@@ -31,7 +31,7 @@ impl Session {
         })
     }
 
-    // Starts again with no text. What is lent stays.
+    // Starts again with no text and no choice made. What is lent stays.
     pub(crate) fn start_again(&mut self)
         ensures { view self.new ≡ started self.old.lent }
     {
@@ -41,27 +41,18 @@ impl Session {
         self.size = None;
     }
 
-    // Chooses the encoding, and says whether it could be chosen.
-    pub(crate) fn choose(&mut self, encoding: Encoding) -> bool
+    // Chooses the encoding or the language, and says whether it could be chosen.
+    pub(crate) fn choose(&mut self, choice: Choice) -> bool
         ensures answer { result ≡ not self.old.called }
-        ensures after { view self.new ≡ (if result then encoded encoding (view self.old) else view self.old) }
+        ensures after { view self.new ≡ (if result then choosing choice (view self.old) else view self.old) }
     {
         if self.called {
             return false;
         }
-        self.encoding = encoding;
-        true
-    }
-
-    // Chooses the language, and says whether it could be chosen.
-    pub(crate) fn speak(&mut self, tongue: Tongue) -> bool
-        ensures answer { result ≡ not self.old.called }
-        ensures after { view self.new ≡ (if result then speaking tongue (view self.old) else view self.old) }
-    {
-        if self.called {
-            return false;
+        match choice {
+            Choice::Encoding(encoding) => self.encoding = encoding,
+            Choice::Language(tongue) => self.tongue = tongue,
         }
-        self.tongue = tongue;
         true
     }
 

@@ -10,13 +10,19 @@ use text::places::Range;
 
 #[derive(Drop)]
 pub enum Command {
-    Encoding(Encoding),
-    Language(Tongue),
+    Choose(Choice),
     Lend(usize),
     New,
     State,
     Show,
     Call(Call),
+}
+
+// What stays once a call was made.
+#[derive(Clone, Copy)]
+pub enum Choice {
+    Encoding(Encoding),
+    Language(Tongue),
 }
 
 // What the library is asked to do: each is taken, or refused by a number.
@@ -121,18 +127,15 @@ fn read_call(heap: Global, line: &[u8]) -> Result<Option<Call>, AllocError> {
 // The command that is no call, none where the line is another.
 fn read_setting(line: &[u8]) -> Option<Command> {
     if let Some(encoding) = read_encoding(line) {
-        return if encoding.rest.is_empty() {
-            Some(Command::Encoding(encoding.value))
-        } else {
-            None
-        };
+        let choice = Choice::Encoding(encoding.value);
+        return encoding.rest.is_empty().then_some(Command::Choose(choice));
     }
     if let Some(fields) = line.strip_prefix(b"lend ") {
         return read_lend(fields);
     }
     match line {
-        b"routes" => Some(Command::Language(Tongue::Routes)),
-        b"settings" => Some(Command::Language(Tongue::Settings)),
+        b"routes" => Some(Command::Choose(Choice::Language(Tongue::Routes))),
+        b"settings" => Some(Command::Choose(Choice::Language(Tongue::Settings))),
         b"new" => Some(Command::New),
         b"state" => Some(Command::State),
         b"show" => Some(Command::Show),

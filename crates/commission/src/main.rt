@@ -90,13 +90,8 @@ fn carry_out(
         return println!(rt; "{number}: no call");
     };
     match command {
-        Command::Encoding(encoding) => {
-            if !session.choose(encoding) {
-                println!(rt; "{number}: out of place")?;
-            }
-        }
-        Command::Language(tongue) => {
-            if !session.speak(tongue) {
+        Command::Choose(choice) => {
+            if !session.choose(choice) {
                 println!(rt; "{number}: out of place")?;
             }
         }
