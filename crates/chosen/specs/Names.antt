@@ -7,7 +7,7 @@ use Rattle.routes.specs.Reading.{routes_next}
 use Rattle.settings.specs.Reading.{settings_next}
 use Rattle.chosen.specs.declared.tongues.Tongue.{Tongue}
 use Rattle.chosen.specs.declared.tongues.Tongue.TheVariants.{Routes, Settings}
-use Rattle.chosen.specs.declared.tongues.Spoken.{Spoken}
+use Rattle.notation.specs.declared.parsed.Parsed.{Parsed}
 use Rattle.text.specs.Units.{utf8_units, utf16_units, utf32_units}
 
 -- the units that the columns of an encoding count
@@ -27,6 +27,6 @@ name_of Routes = codes "routes "
 name_of Settings = codes "settings "
 
 -- the list is the language's name and what follows it; none where it begins with no name
-abbrev pub Speaks : List ℕ → Option Spoken → Type 0
+abbrev pub Speaks : List ℕ → Option (Parsed Tongue) → Type 0
 Speaks bs None = (t : Tongue) (rest : List ℕ) → bs ≢ name_of t ++ rest
-Speaks bs (Some s) = bs ≡ name_of s.tongue ++ s.rest.now
+Speaks bs (Some p) = bs ≡ name_of p.value ++ p.rest.now

@@ -1,5 +1,6 @@
 // The library's calls in the language and encoding that a program's input names.
 #![tactic(auto)]
 
+pub mod fields;
 pub mod texts;
 pub mod tongues;

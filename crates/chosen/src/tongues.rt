@@ -6,7 +6,7 @@ ghost use Rattle.chosen.specs.Names.{units_of, next_of, Speaks};
 
 use coding::coder::code;
 use languages::language::Language;
-use notation::Encoding;
+use notation::{Encoding, Parsed, read_name};
 use refusals::Refusal;
 use routes::Routes;
 use settings::Settings;
@@ -18,30 +18,17 @@ pub enum Tongue {
     Settings,
 }
 
-// A language that was named, and what follows its name and a space.
-#[derive(Clone, Copy)]
-pub struct Spoken<'a> {
-    pub tongue: Tongue,
-    pub rest: &'a [u8],
-}
-
 // The language whose name and a space stand at the front of `from`.
-pub fn read_tongue(from: &[u8]) -> Option<Spoken<'_>>
+pub fn read_tongue(from: &[u8]) -> Option<Parsed<'_, Tongue>>
     ensures { Speaks from.now result }
 {
-    if let Some(rest) = from.strip_prefix(b"routes ") {
-        return Some(Spoken {
-            tongue: Tongue::Routes,
-            rest,
-        });
-    }
-    if let Some(rest) = from.strip_prefix(b"settings ") {
-        return Some(Spoken {
-            tongue: Tongue::Settings,
-            rest,
-        });
-    }
-    None
+    read_name(
+        from,
+        &[
+            (b"routes ", Tongue::Routes),
+            (b"settings ", Tongue::Settings),
+        ],
+    )
 }
 
 fn code_in<L: Language>(

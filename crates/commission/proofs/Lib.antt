@@ -1,3 +1,2 @@
-mod Settled
 mod Views
 mod Typing

@@ -1,6 +1,6 @@
 -- What a session shows, and the rule of each call: its checks in their order, and what a taken call leaves. Assumes
 -- nothing.
-use Rattle.std.specs.Prelude.{ℕ, Bool, true, false, cond, not, ◌||◌, List, [], ◌∷◌, ◌++◌, length, take, vec_items, codes, decimal, nat_lt}
+use Rattle.std.specs.Prelude.{ℕ, Bool, true, false, cond, not, ◌||◌, List, [], ◌∷◌, ◌++◌, length, take, vec_items, Some, None, Option, codes, decimal, nat_lt}
 use Rattle.notation.specs.Texts.{written}
 use Rattle.notation.specs.declared.encoding.Encoding.{Encoding}
 use Rattle.notation.specs.declared.encoding.Encoding.TheVariants.{Utf16}
@@ -11,11 +11,17 @@ use Rattle.text.specs.Lines.{line_count}
 use Rattle.text.specs.Positions.{limit, text_checks, range_checks, typed}
 use Rattle.commission.specs.declared.command.Call.{Call}
 use Rattle.commission.specs.declared.command.Call.TheVariants.{Open, Replace, «Type»}
+use Rattle.commission.specs.declared.command.Choice.{Choice}
+use Rattle.commission.specs.declared.command.Choice.TheVariants.{Encoding as ChosenEncoding, Language}
 use Rattle.commission.specs.declared.session.Session.{Session}
 use Rattle.chosen.specs.Names.{units_of}
+use Rattle.chosen.specs.declared.tongues.Tongue.{Tongue}
+use Rattle.chosen.specs.declared.tongues.Tongue.TheVariants.{Routes}
+use Rattle.std.specs.Option.{is_some, unwrap_or}
 
 pub record View : Type 0 where
   pub encoding : Encoding
+  pub tongue : Tongue
   pub called : Bool
   pub opened : Bool
   pub text : List ℕ
@@ -25,28 +31,40 @@ pub record View : Type 0 where
 abbrev pub view : Session → View
 view s = record {
   encoding = s.encoding;
+  tongue = s.tongue;
   called = s.called;
-  opened = s.opened;
-  text = take s.size (vec_items s.memory);
+  opened = is_some s.size;
+  text = take (unwrap_or s.size 0) (vec_items s.memory);
   lent = s.lent;
 }
 
 -- the same with another text at hand
 abbrev pub holding : List ℕ → View → View
-holding t v = record { encoding = v.encoding; called = v.called; opened = true; text = t; lent = v.lent }
+holding t v = record { encoding = v.encoding; tongue = v.tongue; called = v.called; opened = true; text = t; lent = v.lent }
+
+-- the text, where there is one
+abbrev pub at_hand : View → Option (List ℕ)
+at_hand v = cond v.opened (Some v.text) None
 
 -- no text and no call yet
 abbrev pub started : ℕ → View
-started n = record { encoding = Utf16; called = false; opened = false; text = []; lent = n }
+started n = record { encoding = Utf16; tongue = Routes; called = false; opened = false; text = []; lent = n }
 
 abbrev pub encoded : Encoding → View → View
-encoded e v = record { encoding = e; called = v.called; opened = v.opened; text = v.text; lent = v.lent }
+encoded e v = record { encoding = e; tongue = v.tongue; called = v.called; opened = v.opened; text = v.text; lent = v.lent }
+
+abbrev pub speaking : Tongue → View → View
+speaking t v = record { encoding = v.encoding; tongue = t; called = v.called; opened = v.opened; text = v.text; lent = v.lent }
+
+abbrev pub choosing : Choice → View → View
+choosing (ChosenEncoding e) v = encoded e v
+choosing (Language t) v = speaking t v
 
 abbrev pub lending : ℕ → View → View
-lending n v = record { encoding = v.encoding; called = v.called; opened = v.opened; text = v.text; lent = n }
+lending n v = record { encoding = v.encoding; tongue = v.tongue; called = v.called; opened = v.opened; text = v.text; lent = n }
 
 abbrev pub calling : View → View
-calling v = record { encoding = v.encoding; called = true; opened = v.opened; text = v.text; lent = v.lent }
+calling v = record { encoding = v.encoding; tongue = v.tongue; called = true; opened = v.opened; text = v.text; lent = v.lent }
 
 -- what is told of a text: how many lines and bytes it has, and the text
 abbrev pub counted : ℕ → ℕ → List ℕ

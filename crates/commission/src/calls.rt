@@ -1,12 +1,14 @@
 // What a session does for each command.
-ghost use Rattle.std.specs.Prelude.{◌≡◌, ◌≤◌, not, length, IfOk, if◌then◌else◌, string_bytes, OnOk};
+ghost use Rattle.std.specs.Prelude.{◌≡◌, ◌≤◌, not, length, Some, IfOk, if◌then◌else◌, string_bytes, OnOk};
+ghost use Rattle.std.specs.Option.{option_map, unwrap_or, is_some};
 ghost use Rattle.refusals.specs.Outcomes.{outcome};
 ghost use Rattle.text.specs.Positions.{unsound};
-ghost use Rattle.commission.specs.Rules.{view, holding, started, encoded, lending, calling, telling, told, open_rule, replace_rule, ready_rule, type_rule, call_rule};
+ghost use Rattle.commission.specs.Rules.{view, holding, started, choosing, at_hand, lending, calling, telling, told, open_rule, replace_rule, ready_rule, type_rule, call_rule};
 
-use crate::command::Call;
+use crate::command::{Call, Choice};
 use crate::session::Session;
 use chosen::texts::change;
+use chosen::tongues::Tongue;
 use notation::{Encoding, write_text};
 use refusals::Refusal;
 use std::alloc::{AllocError, Global};
@@ -21,33 +23,36 @@ impl Session {
         let memory = vec![in heap; 0; TEXT_LIMIT]?;
         Ok(Session {
             encoding: Encoding::Utf16,
+            tongue: Tongue::Routes,
             called: false,
-            opened: false,
             memory,
-            size: 0,
+            size: None,
             lent: TEXT_LIMIT,
         })
     }
 
-    // Starts again with no text. What is lent stays.
+    // Starts again with no text and no choice made. What is lent stays.
     pub(crate) fn start_again(&mut self)
         ensures { view self.new ≡ started self.old.lent }
     {
         self.encoding = Encoding::Utf16;
+        self.tongue = Tongue::Routes;
         self.called = false;
-        self.opened = false;
-        self.size = 0;
+        self.size = None;
     }
 
-    // Chooses the encoding, and says whether it could be chosen.
-    pub(crate) fn choose(&mut self, encoding: Encoding) -> bool
+    // Chooses the encoding or the language, and says whether it could be chosen.
+    pub(crate) fn choose(&mut self, choice: Choice) -> bool
         ensures answer { result ≡ not self.old.called }
-        ensures after { view self.new ≡ (if result then encoded encoding (view self.old) else view self.old) }
+        ensures after { view self.new ≡ (if result then choosing choice (view self.old) else view self.old) }
     {
         if self.called {
             return false;
         }
-        self.encoding = encoding;
+        match choice {
+            Choice::Encoding(encoding) => self.encoding = encoding,
+            Choice::Language(tongue) => self.tongue = tongue,
+        }
         true
     }
 
@@ -61,21 +66,28 @@ impl Session {
         Ok(())
     }
 
+    // The text at hand.
+    pub(crate) fn text(&self) -> Option<&[u8]>
+        ensures { option_map (λ t. t.now) result ≡ at_hand (view self.now) }
+    {
+        let size = self.size?;
+        Some(&self.memory[..size])
+    }
+
     // Makes the text the one at hand.
     fn put(&mut self, text: &[u8])
         requires { length text.now ≤ 8192 }
         ensures { view self.new ≡ holding text.now (view self.old) }
     {
         self.memory[0..text.len()].copy_from_slice(text);
-        self.size = text.len();
-        self.opened = true;
+        self.size = Some(text.len());
     }
 
     fn open(&mut self, text: &[u8]) -> Result<(), Refusal>
         ensures { outcome (λ _. view self.new) result (view self.new) ≡ open_rule (view self.old) text.now }
     {
         check(text)?;
-        if self.opened {
+        if self.size.is_some() {
             return Err(Refusal::DocumentState);
         }
         self.put(text);
@@ -86,7 +98,7 @@ impl Session {
         ensures { outcome (λ _. view self.new) result (view self.new) ≡ replace_rule (view self.old) text.now }
     {
         check(text)?;
-        if !self.opened {
+        if self.size.is_none() {
             return Err(Refusal::DocumentState);
         }
         self.put(text);
@@ -96,9 +108,9 @@ impl Session {
     fn type_text(&mut self, range: Range, inserted: &[u8]) -> Result<(), Refusal>
         ensures { outcome (λ _. view self.new) result (view self.new) ≡ type_rule (view self.old) range inserted.now }
     {
-        check_ready(&self.memory[0..self.lent], self.size, self.opened, inserted)?;
+        let size = check_ready(&self.memory[0..self.lent], self.size, inserted)?;
         let lent = &mut self.memory[0..self.lent];
-        self.size = change(self.encoding, lent, self.size, range, inserted)?;
+        self.size = Some(change(self.encoding, lent, size, range, inserted)?);
         Ok(())
     }
 
@@ -118,10 +130,10 @@ impl Session {
     pub(crate) fn state(&self, heap: Global) -> Result<String, AllocError>
         ensures { IfOk result (λ s. string_bytes s ≡ told (view self.now)) }
     {
-        if !self.opened {
-            return String::from_str(heap, "no text");
+        match self.text() {
+            Some(text) => tell(heap, text),
+            None => String::from_str(heap, "no text"),
         }
-        tell(heap, &self.memory[0..self.size])
     }
 }
 
@@ -136,17 +148,15 @@ fn tell(heap: Global, text: &[u8]) -> Result<String, AllocError>
     Ok(told)
 }
 
-// What is checked of a change before its positions. The numbers are tried in their order: 9, which the library does
-// not know, comes behind those for the memory and for the inserted text.
-fn check_ready(lent: &[u8], size: usize, opened: bool, inserted: &[u8]) -> Result<(), Refusal>
-    ensures { outcome (λ u. u) result tt ≡ ready_rule (unsound lent.now size) opened inserted.now }
+// The size of the text that a change is made to. What is checked here comes before its positions, and the numbers are
+// tried in their order: 9, which the library does not know, comes behind those for the memory and for the inserted text.
+fn check_ready(lent: &[u8], size: Option<usize>, inserted: &[u8]) -> Result<usize, Refusal>
+    ensures rule { outcome (λ _. tt) result tt ≡ ready_rule (unsound lent.now (unwrap_or size 0)) (is_some size) inserted.now }
+    ensures size { IfOk result (λ n. size ≡ Some n) }
 {
-    if !holds_text(lent, size) {
+    if !holds_text(lent, size.unwrap_or(0)) {
         return Err(Refusal::Memory);
     }
     check(inserted)?;
-    if !opened {
-        return Err(Refusal::DocumentState);
-    }
-    Ok(())
+    size.ok_or(Refusal::DocumentState)
 }

@@ -1,22 +1,28 @@
 // The commands of a script, each read from a line.
 ghost use Rattle.std.specs.Prelude.{◌≡◌};
-ghost use Rattle.std.specs.Option.{option_map};
-ghost use Rattle.commission.specs.Fields.{blank, passed_over, position_field, lend_of};
+ghost use Rattle.commission.specs.Fields.{blank, passed_over, lend_of};
 
+use chosen::fields::position_field;
 use chosen::tongues::Tongue;
-use notation::{Encoding, read_encoding, read_last_text, read_mark, read_number, read_pair};
+use notation::{Encoding, read_encoding, read_last_text, read_name, read_number};
 use std::alloc::{AllocError, Global};
-use text::places::{Column, Position, Range};
+use text::places::Range;
 
 #[derive(Drop)]
 pub enum Command {
-    Encoding(Encoding),
-    Language(Tongue),
+    Choose(Choice),
     Lend(usize),
     New,
     State,
     Show,
     Call(Call),
+}
+
+// What stays once a call was made.
+#[derive(Clone, Copy)]
+pub enum Choice {
+    Encoding(Encoding),
+    Language(Tongue),
 }
 
 // What the library is asked to do: each is taken, or refused by a number.
@@ -38,6 +44,7 @@ pub struct Typing {
 const MOST_LENT: u32 = 65_536;
 
 impl Call {
+    // The word that begins the call. It is no `Display`, which would leave out what the call brings.
     pub(crate) fn word(&self) -> &'static str {
         match self {
             Call::Open(_) => "open",
@@ -51,12 +58,7 @@ impl Call {
 fn is_blank(line: &[u8]) -> bool
     ensures { result ≡ blank line.now }
 {
-    for byte in line {
-        if *byte != b' ' {
-            return false;
-        }
-    }
-    true
+    line.iter().all(|byte| *byte == b' ')
 }
 
 // Whether a line is passed over: a comment, or blank.
@@ -67,28 +69,6 @@ pub(crate) fn is_passed_over(line: &[u8]) -> bool
         [b'#', ..] => true,
         _ => is_blank(line),
     }
-}
-
-// A position that was read, and what follows it.
-#[derive(Clone, Copy)]
-struct Located<'a> {
-    position: Position,
-    rest: &'a [u8],
-}
-
-// A position and a space.
-fn position_field(from: &[u8]) -> Option<Located<'_>>
-    ensures { option_map (λ l. (l.position.line, l.position.character.0, l.rest.now)) result ≡ position_field from.now }
-{
-    let pair = read_pair(from)?;
-    let position = Position {
-        line: pair.first,
-        character: Column(pair.second),
-    };
-    Some(Located {
-        position,
-        rest: read_mark(pair.rest, b' ')?,
-    })
 }
 
 fn read_lend(fields: &[u8]) -> Option<Command>
@@ -112,49 +92,50 @@ fn read_typing(heap: Global, fields: &[u8]) -> Result<Option<Typing>, AllocError
         return Ok(None);
     };
     let range = Range {
-        start: start.position,
-        end: end.position,
+        start: start.value,
+        end: end.value,
     };
     Ok(Some(Typing { range, inserted }))
 }
 
+// The words that begin a call.
+#[derive(Clone, Copy)]
+enum Word {
+    Open,
+    Replace,
+    Type,
+}
+
 fn read_call(heap: Global, line: &[u8]) -> Result<Option<Call>, AllocError> {
-    if let Some(fields) = line.strip_prefix(b"open ") {
-        let Some(text) = read_last_text(heap, fields)? else {
-            return Ok(None);
-        };
-        return Ok(Some(Call::Open(text)));
-    }
-    if let Some(fields) = line.strip_prefix(b"replace ") {
-        let Some(text) = read_last_text(heap, fields)? else {
-            return Ok(None);
-        };
-        return Ok(Some(Call::Replace(text)));
-    }
-    if let Some(fields) = line.strip_prefix(b"type ") {
-        let Some(typing) = read_typing(heap, fields)? else {
-            return Ok(None);
-        };
-        return Ok(Some(Call::Type(typing)));
-    }
-    Ok(None)
+    let Some(word) = read_name(
+        line,
+        &[
+            (b"open ", Word::Open),
+            (b"replace ", Word::Replace),
+            (b"type ", Word::Type),
+        ],
+    ) else {
+        return Ok(None);
+    };
+    Ok(match word.value {
+        Word::Open => read_last_text(heap, word.rest)?.map(Call::Open),
+        Word::Replace => read_last_text(heap, word.rest)?.map(Call::Replace),
+        Word::Type => read_typing(heap, word.rest)?.map(Call::Type),
+    })
 }
 
 // The command that is no call, none where the line is another.
 fn read_setting(line: &[u8]) -> Option<Command> {
-    if let Some(named) = read_encoding(line) {
-        return if named.rest.is_empty() {
-            Some(Command::Encoding(named.encoding))
-        } else {
-            None
-        };
+    if let Some(encoding) = read_encoding(line) {
+        let choice = Choice::Encoding(encoding.value);
+        return encoding.rest.is_empty().then_some(Command::Choose(choice));
     }
     if let Some(fields) = line.strip_prefix(b"lend ") {
         return read_lend(fields);
     }
     match line {
-        b"routes" => Some(Command::Language(Tongue::Routes)),
-        b"settings" => Some(Command::Language(Tongue::Settings)),
+        b"routes" => Some(Command::Choose(Choice::Language(Tongue::Routes))),
+        b"settings" => Some(Command::Choose(Choice::Language(Tongue::Settings))),
         b"new" => Some(Command::New),
         b"state" => Some(Command::State),
         b"show" => Some(Command::Show),

@@ -20,18 +20,17 @@ mod calls;
 mod command;
 mod painting;
 mod session;
-mod words;
 
-use chosen::tongues::Tongue;
+use chosen::tongues::code_text;
+use coding::coder::LIST_LIMIT;
 use command::{Command, is_passed_over, read_command};
 use examples::worked_examples;
-use notation::first_line;
+use notation::lines;
 use painting::show;
 use refusals::Refusal;
 use session::Session;
 use std::io;
 use std::io::{Read, Write};
-use words::words_of;
 
 // How many calls were taken and refused.
 #[derive(Clone, Copy)]
@@ -58,27 +57,23 @@ fn report(
 ) -> io::Result<()> {
     match outcome {
         Ok(()) => println!(rt; "{number}: {word} -> 0 taken"),
-        Err(refusal) => {
-            let sent = refusal.number();
-            let words = words_of(refusal);
-            println!(rt; "{number}: {word} -> {sent} {words}")
-        }
+        Err(refusal) => { println!(rt; "{number}: {word} -> {} {refusal}", refusal.number()) }
     }
 }
 
 // Prints the text at hand in colours.
-fn print_colours(
-    rt: &HostRuntime,
-    session: &Session,
-    tongue: Tongue,
-    number: u64,
-) -> io::Result<()> {
-    if !session.opened {
+fn print_colours(rt: &HostRuntime, session: &Session, number: u64) -> io::Result<()> {
+    let Some(text) = session.text() else {
         return println!(rt; "no text");
-    }
-    let text = &session.memory[0..session.size];
-    match show(rt.alloc(), tongue, session.encoding, text)? {
-        Ok(painted) => rt.stdout().write_all(painted.as_slice()),
+    };
+    let heap = rt.alloc();
+    let mut list = vec![in heap; 0; LIST_LIMIT]?;
+    match code_text(session.tongue, session.encoding, text, &mut list) {
+        Ok(size) => {
+            let coded = &list[..size.min(LIST_LIMIT)];
+            let painted = show(heap, session.tongue, session.encoding, text, coded)?;
+            rt.stdout().write_all(painted.as_slice())
+        }
         Err(refusal) => report(rt, number, "show", Err(refusal)),
     }
 }
@@ -87,7 +82,6 @@ fn print_colours(
 fn carry_out(
     rt: &HostRuntime,
     session: &mut Session,
-    tongue: &mut Tongue,
     tally: &mut Tally,
     number: u64,
     line: &[u8],
@@ -96,24 +90,14 @@ fn carry_out(
         return println!(rt; "{number}: no call");
     };
     match command {
-        Command::Encoding(encoding) => {
-            if !session.choose(encoding) {
+        Command::Choose(choice) => {
+            if !session.choose(choice) {
                 println!(rt; "{number}: out of place")?;
-            }
-        }
-        Command::Language(language) => {
-            if session.called {
-                println!(rt; "{number}: out of place")?;
-            } else {
-                *tongue = language;
             }
         }
         Command::Lend(bytes) => session.lend(bytes)?,
-        Command::New => {
-            session.start_again();
-            *tongue = Tongue::Routes;
-        }
-        Command::Show => print_colours(rt, session, *tongue, number)?,
+        Command::New => session.start_again(),
+        Command::Show => print_colours(rt, session, number)?,
         Command::State => {
             let state = session.state(rt.alloc())?;
             println!(rt; "{state}")?;
@@ -134,30 +118,15 @@ fn main(rt: HostRuntime) -> io::Result<()> {
     let count = worked_examples();
     println!(rt; "{count} worked examples are proved")?;
     let mut session = Session::new(heap)?;
-    let mut tongue = Tongue::Routes;
     let mut tally = Tally {
         taken: 0,
         refused: 0,
     };
-    let mut rest = script.as_slice();
-    for number in 1..u64::MAX {
-        if rest.is_empty() {
-            break;
+    for (number, line) in (1..u64::MAX).zip(lines(script.as_slice())) {
+        if !is_passed_over(line) {
+            carry_out(&rt, &mut session, &mut tally, number, line)?;
         }
-        let line = first_line(rest);
-        if !is_passed_over(line.content) {
-            carry_out(
-                &rt,
-                &mut session,
-                &mut tongue,
-                &mut tally,
-                number,
-                line.content,
-            )?;
-        }
-        rest = line.rest;
     }
-    let taken = tally.taken;
-    let refused = tally.refused;
+    let Tally { taken, refused } = tally;
     println!(rt; "{taken} taken, {refused} refused")
 }

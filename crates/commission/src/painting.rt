@@ -1,54 +1,63 @@
 // A text in colours: each token by its type, out of the coded list that is decoded again.
 use chosen::texts::resolve;
-use chosen::tongues::{Tongue, code_text};
-use coding::coder::{LIST_LIMIT, TOKEN_LIMIT};
+use chosen::tongues::Tongue;
+use coding::coder::TOKEN_LIMIT;
 use coding::decoder::token_at;
 use coding::placed::PlacedToken;
 use notation::Encoding;
-use refusals::Refusal;
 use std::alloc::{AllocError, Global};
 use text::places::{Column, Place, Position, Span};
 
 const PLAIN: &[u8] = b"\x1b[0m";
 
-// The colour of a token type. A wildcard stands out: it is an operator, in reverse.
-fn colour_of(kind: u32) -> &'static [u8] {
-    match kind {
-        0 => b"\x1b[90m",
-        1 => b"\x1b[1;34m",
-        2 => b"\x1b[36m",
-        3 => b"\x1b[33m",
-        4 => b"\x1b[1;7;35m",
-        5 => b"\x1b[32m",
-        _ => b"\x1b[1;36m",
-    }
+// A token type: its name, and the bytes that begin its colour.
+struct Style {
+    name: &'static [u8],
+    colour: &'static [u8],
 }
 
-// The types of a language, each in its colour.
-fn legend_of(tongue: Tongue) -> &'static [&'static [u8]] {
+// The token types by their numbers. A wildcard stands out: it is an operator, in reverse.
+static STYLES: [Style; 7] = [
+    Style {
+        name: b"comment",
+        colour: b"\x1b[90m",
+    },
+    Style {
+        name: b"keyword",
+        colour: b"\x1b[1;34m",
+    },
+    Style {
+        name: b"variable",
+        colour: b"\x1b[36m",
+    },
+    Style {
+        name: b"number",
+        colour: b"\x1b[33m",
+    },
+    Style {
+        name: b"operator",
+        colour: b"\x1b[1;7;35m",
+    },
+    Style {
+        name: b"string",
+        colour: b"\x1b[32m",
+    },
+    Style {
+        name: b"property",
+        colour: b"\x1b[1;36m",
+    },
+];
+
+// The types of a language.
+fn styles_of(tongue: Tongue) -> &'static [Style] {
     match tongue {
-        Tongue::Routes => &[
-            b"comment",
-            b"keyword",
-            b"variable",
-            b"number",
-            b"operator",
-            b"string",
-        ],
-        Tongue::Settings => &[
-            b"comment",
-            b"keyword",
-            b"variable",
-            b"number",
-            b"operator",
-            b"string",
-            b"property",
-        ],
+        Tongue::Routes => &STYLES[..6],
+        Tongue::Settings => &STYLES,
     }
 }
 
-fn paint(painted: &mut Vec<u8>, kind: u32, bytes: &[u8]) -> Result<(), AllocError> {
-    painted.extend_from_slice(colour_of(kind))?;
+fn paint(painted: &mut Vec<u8>, style: &Style, bytes: &[u8]) -> Result<(), AllocError> {
+    painted.extend_from_slice(style.colour)?;
     painted.extend_from_slice(bytes)?;
     painted.extend_from_slice(PLAIN)
 }
@@ -68,15 +77,9 @@ fn leave_plain(painted: &mut Vec<u8>, bytes: &[u8]) -> Result<(), AllocError> {
 }
 
 fn place_of(encoding: Encoding, text: &[u8], line: u64, column: u64) -> Option<Place> {
-    let Ok(line) = u32::try_from(line) else {
-        return None;
-    };
-    let Ok(column) = u32::try_from(column) else {
-        return None;
-    };
     let position = Position {
-        line,
-        character: Column(column),
+        line: u32::try_from(line).ok()?,
+        character: Column(u32::try_from(column).ok()?),
     };
     resolve(encoding, text, position).ok()
 }
@@ -99,48 +102,42 @@ fn paint_tokens(
 ) -> Result<Vec<u8>, AllocError> {
     let mut painted = Vec::new(heap);
     let mut at = 0;
-    for k in 0..TOKEN_LIMIT {
-        let Some(token) = token_at(list, k) else {
-            break;
-        };
+    for token in (0..TOKEN_LIMIT).map_while(|k| token_at(list, k)) {
         let Some(span) = span_of(encoding, text, token) else {
             break;
         };
         let start = span.start.0;
         let end = span.end.0;
-        if start < at || end < start || text.len() < end {
+        let (Some(between), Some(bytes)) = (text.get(at..start), text.get(start..end)) else {
             break;
-        }
-        leave_plain(&mut painted, &text[at..start])?;
-        paint(&mut painted, token.kind, &text[start..end])?;
+        };
+        let Some(style) = STYLES.get(token.kind as usize) else {
+            break;
+        };
+        leave_plain(&mut painted, between)?;
+        paint(&mut painted, style, bytes)?;
         at = end;
     }
-    if at <= text.len() {
-        leave_plain(&mut painted, &text[at..])?;
+    if let Some(left) = text.get(at..) {
+        leave_plain(&mut painted, left)?;
     }
     Ok(painted)
 }
 
-// The text in colours, with a legend below it, or why it has none.
+// The text in colours, with a legend below it.
 pub(crate) fn show(
     heap: Global,
     tongue: Tongue,
     encoding: Encoding,
     text: &[u8],
-) -> Result<Result<Vec<u8>, Refusal>, AllocError> {
-    let mut list = vec![in heap; 0; LIST_LIMIT]?;
-    let size = match code_text(tongue, encoding, text, &mut list) {
-        Ok(size) => size.min(list.len()),
-        Err(refusal) => return Ok(Err(refusal)),
-    };
-    let mut painted = paint_tokens(heap, encoding, text, &list[0..size])?;
+    list: &[u32],
+) -> Result<Vec<u8>, AllocError> {
+    let mut painted = paint_tokens(heap, encoding, text, list)?;
     painted.push(b'\n')?;
-    let mut kind = 0;
-    for name in legend_of(tongue) {
-        paint(&mut painted, kind, name)?;
+    for style in styles_of(tongue) {
+        paint(&mut painted, style, style.name)?;
         painted.push(b' ')?;
-        kind = kind.saturating_add(1);
     }
     painted.push(b'\n')?;
-    Ok(Ok(painted))
+    Ok(painted)
 }

@@ -1,21 +1,23 @@
 // What a script works on.
 ghost use Rattle.std.specs.Prelude.{◌≤◌, vec_len};
+ghost use Rattle.std.specs.Option.{unwrap_or};
 
+use chosen::tongues::Tongue;
 use notation::Encoding;
 
 #[derive(Drop)]
 pub struct Session {
     pub encoding: Encoding,
-    // A call was made, so the encoding stays.
+    pub tongue: Tongue,
+    // A call was made, so the encoding and the language stay.
     pub called: bool,
-    // Whether there is a text.
-    pub opened: bool,
-    // The text stands in the first `size` bytes.
+    // The first bytes hold the text, where there is one.
     pub memory: Vec<u8>,
-    pub size: usize,
+    // How many bytes the text has.
+    pub size: Option<usize>,
     // The library is lent the first `lent` bytes.
     pub lent: usize,
     ghost room: { 8192 ≤ vec_len memory },
-    ghost short: { size ≤ 8192 },
+    ghost short: { unwrap_or size 0 ≤ 8192 },
     ghost within: { lent ≤ vec_len memory },
 }

@@ -1,3 +1,4 @@
 mod Steps
 mod Bodies
 mod Back
+pub mod Names

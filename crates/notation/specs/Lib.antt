@@ -1,4 +1,5 @@
 pub mod Encodings
+pub mod Names
 pub mod Numbers
 pub mod ScriptLines
 pub mod Texts

@@ -1,6 +1,6 @@
 -- The number that the front of a list of bytes writes in decimal digits. Assumes nothing.
 use Rattle.std.specs.Prelude.{ℕ, ◌+◌, ◌-◌, ◌*◌, ◌^◌, cond, ◌&&◌, List, [], ◌∷◌, length, drop, Some, None, Option, ◌==◌, nat_lt}
-use Rattle.std.specs.Option.{option_map}
+use Rattle.std.specs.Option.{option_map, option_and_then}
 use Rattle.std.specs.Char.{is_ascii_digit}
 
 -- the digits at the front
@@ -24,10 +24,7 @@ abbrev pub behind : ℕ → List ℕ → Option (List ℕ)
 behind m [] = None
 behind m (b ∷ bs) = cond (b == m) (Some bs) None
 
-abbrev pub then : {X Y : Type 0} → Option X → (X → Option Y) → Option Y
-then None f = None
-then (Some x) f = f x
-
 -- two numbers with a colon between them, and what follows
 abbrev pub pair_of : List ℕ → Option (ℕ × ℕ × List ℕ)
-pair_of bs = then (number_of bs) (λ m. then (behind 58 m.1) (λ rest. option_map (λ n. (m.0, n.0, n.1)) (number_of rest)))
+pair_of bs =
+    option_and_then (λ m. option_and_then (λ rest. option_map (λ n. (m.0, n.0, n.1)) (number_of rest)) (behind 58 m.1)) (number_of bs)

@@ -1,9 +1,9 @@
 -- How bytes are written as TEXT: a quote, a spelling of each byte, and a quote. Assumes nothing.
-use Rattle.std.specs.Prelude.{ℕ, zero, suc, pred, ◌+◌, ◌-◌, ◌*◌, ◌/◌, ◌%◌, Bool, cond, not, ◌&&◌, ◌||◌, List, [], ◌∷◌, ◌++◌, Some, None, vec_items, Option, ◌==◌, nat_le, nat_lt}
+use Rattle.std.specs.Prelude.{ℕ, zero, suc, pred, ◌+◌, ◌-◌, ◌*◌, ◌/◌, ◌%◌, Bool, cond, not, ◌&&◌, ◌||◌, List, [], ◌∷◌, ◌++◌, drop, Some, None, Vec, vec_items, Option, ◌==◌, nat_le, nat_lt}
 use Rattle.std.specs.List.{flat_map}
-use Rattle.std.specs.Option.{option_map}
-use Rattle.notation.specs.declared.quoted.Quoted.{Quoted}
-use Rattle.notation.specs.Numbers.{then}
+use Rattle.std.specs.Option.{option_map, option_and_then, option_zip}
+use Rattle.std.specs.declared.alloc.Global.{Global}
+use Rattle.notation.specs.declared.parsed.Parsed.{Parsed}
 
 -- the value of a hexadecimal digit of either case
 abbrev pub hex_value : ℕ → Option ℕ
@@ -21,15 +21,10 @@ named c =
 abbrev pub stands : ℕ → Bool
 stands b = nat_le 32 b && not (b == 34) && not (b == 92) && not (b == 127)
 
-abbrev pub both : Option ℕ → Option ℕ → Option (ℕ × ℕ)
-both None l = None
-both (Some h) None = None
-both (Some h) (Some l) = Some (h * 16 + l, 4)
-
 abbrev pub hex_pair : List ℕ → Option (ℕ × ℕ)
 hex_pair [] = None
 hex_pair (h ∷ []) = None
-hex_pair (h ∷ l ∷ bs) = both (hex_value h) (hex_value l)
+hex_pair (h ∷ l ∷ bs) = option_map (λ d. (d.0 * 16 + d.1, 4)) (option_zip (hex_value h) (hex_value l))
 
 -- what stands behind a backslash: x and two hexadecimal digits, or a letter
 abbrev pub escape : List ℕ → Option (ℕ × ℕ)
@@ -41,20 +36,20 @@ abbrev pub spelling_of : List ℕ → Option (ℕ × ℕ)
 spelling_of [] = None
 spelling_of (b ∷ bs) = cond (b == 92) (escape bs) (cond (stands b) (Some (b, 1)) None)
 
+-- that byte, and what follows its spelling
+abbrev pub byte_of : List ℕ → Option (ℕ × List ℕ)
+byte_of bs = option_map (λ s. (s.0, drop s.1 bs)) (spelling_of bs)
+
 -- one more byte in front of those that were read
 abbrev pub ahead : ℕ → Option (List ℕ × List ℕ) → Option (List ℕ × List ℕ)
 ahead b t = option_map (λ p. (b ∷ p.0, p.1)) t
-
-abbrev pub next : Option (ℕ × ℕ) → (ℕ → Option (List ℕ × List ℕ)) → Option (List ℕ × List ℕ)
-next None from = None
-next (Some s) from = ahead s.0 (from s.1)
 
 -- the bytes that are spelled up to the closing quote, and what follows it. The first k bytes of the list belong to
 -- a spelling that was read
 abbrev pub body_of : ℕ → List ℕ → Option (List ℕ × List ℕ)
 body_of k [] = None
 body_of (suc k) (b ∷ bs) = body_of k bs
-body_of zero (b ∷ bs) = cond (b == 34) (Some ([], bs)) (next (spelling_of (b ∷ bs)) (λ n. body_of (pred n) bs))
+body_of zero (b ∷ bs) = cond (b == 34) (Some ([], bs)) (option_and_then (λ s. ahead s.0 (body_of (pred s.1) bs)) (spelling_of (b ∷ bs)))
 
 -- the bytes that the TEXT at the front of a list stands for, and what follows it
 unfoldable pub text_of : List ℕ → Option (List ℕ × List ℕ)
@@ -62,8 +57,8 @@ text_of [] = None
 text_of (b ∷ bs) = cond (b == 34) (body_of 0 bs) None
 
 -- what was read, as lists
-abbrev pub meant : Option Quoted → Option (List ℕ × List ℕ)
-meant o = option_map (λ q. (vec_items q.bytes, q.rest.now)) o
+abbrev pub meant : Option (Parsed (Vec ℕ Global)) → Option (List ℕ × List ℕ)
+meant o = option_map (λ q. (vec_items q.value, q.rest.now)) o
 
 -- the bytes of a TEXT that nothing follows
 abbrev pub alone : List ℕ × List ℕ → Option (List ℕ)
@@ -71,7 +66,7 @@ alone (bs, []) = Some bs
 alone (bs, (b ∷ rest)) = None
 
 abbrev pub last_text : List ℕ → Option (List ℕ)
-last_text bs = then (text_of bs) alone
+last_text bs = option_and_then alone (text_of bs)
 
 -- the capital hexadecimal digit of a number below 16
 abbrev pub hex_digit : ℕ → ℕ

@@ -4,12 +4,16 @@
 
 mod encoding;
 mod line;
+mod name;
 mod number;
+mod parsed;
 mod quoted;
 mod writing;
 
-pub use encoding::{Encoding, Named, read_encoding};
-pub use line::{Line, first_line};
-pub use number::{Number, Pair, read_mark, read_number, read_pair};
-pub use quoted::{Quoted, read_last_text, read_text};
+pub use encoding::{Encoding, read_encoding};
+pub use line::{ScriptLines, first_line, lines};
+pub use name::read_name;
+pub use number::{read_mark, read_number, read_pair};
+pub use parsed::Parsed;
+pub use quoted::{read_last_text, read_text};
 pub use writing::write_text;

@@ -1,66 +1,48 @@
 // Numbers: decimal digits, with no sign. And the marks between fields.
 ghost use Rattle.std.specs.Prelude.{◌≡◌};
 ghost use Rattle.std.specs.Option.{option_map};
+ghost use Rattle.std.specs.List.{prefix_len};
+ghost use Rattle.std.specs.Char.{is_ascii_digit};
 ghost use Rattle.notation.specs.Numbers.{number_of, behind, pair_of};
 
-// A number that was read, and what follows it.
-#[derive(Clone, Copy)]
-pub struct Number<'a> {
-    pub value: u32,
-    pub rest: &'a [u8],
-}
+use crate::parsed::Parsed;
+use std::str::from_utf8;
 
-// Two numbers that were read, and what follows them.
-#[derive(Clone, Copy)]
-pub struct Pair<'a> {
-    pub first: u32,
-    pub second: u32,
-    pub rest: &'a [u8],
+// How many digits stand at the front.
+fn digit_count(from: &[u8]) -> usize
+    ensures { result ≡ prefix_len is_ascii_digit from.now }
+{
+    from.iter().take_while(|byte| byte.is_ascii_digit()).count()
 }
 
 // The number at the front of `from`: all the digits there. None where there is no digit, and where the number does
 // not fit.
-pub fn read_number(from: &[u8]) -> Option<Number<'_>>
+pub fn read_number(from: &[u8]) -> Option<Parsed<'_, u32>>
     ensures { option_map (λ n. (n.value, n.rest.now)) result ≡ number_of from.now }
 {
-    let mut value: u64 = 0;
-    let mut at = 0;
-    while at < from.len() && from[at].is_ascii_digit() {
-        value = value * 10 + (from[at] - b'0') as u64;
-        if value > u32::MAX as u64 {
-            return None;
-        }
-        at += 1;
-    }
-    if at == 0 {
-        return None;
-    }
-    Some(Number {
-        value: value as u32,
-        rest: &from[at..],
-    })
+    let (digits, rest) = from.split_at(digit_count(from));
+    let value = from_utf8(digits).ok()?.parse::<u32>().ok()?;
+    Some(Parsed { value, rest })
 }
 
 // What follows the byte `mark` at the front of `from`.
 pub fn read_mark(from: &[u8], mark: u8) -> Option<&[u8]>
     ensures { option_map (λ b. b.now) result ≡ behind mark from.now }
 {
-    if from.is_empty() || from[0] != mark {
-        return None;
+    match from {
+        [first, rest @ ..] if *first == mark => Some(rest),
+        _ => None,
     }
-    Some(&from[1..])
 }
 
 // The two numbers at the front of `from`, with a colon between them.
-pub fn read_pair(from: &[u8]) -> Option<Pair<'_>>
-    ensures { option_map (λ p. (p.first, p.second, p.rest.now)) result ≡ pair_of from.now }
+pub fn read_pair(from: &[u8]) -> Option<Parsed<'_, (u32, u32)>>
+    ensures { option_map (λ p. (p.value.0, p.value.1, p.rest.now)) result ≡ pair_of from.now }
 {
     let first = read_number(from)?;
-    let behind = read_mark(first.rest, b':')?;
-    let second = read_number(behind)?;
-    Some(Pair {
-        first: first.value,
-        second: second.value,
+    let second = read_number(read_mark(first.rest, b':')?)?;
+    Some(Parsed {
+        value: (first.value, second.value),
         rest: second.rest,
     })
 }

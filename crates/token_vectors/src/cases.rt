@@ -3,16 +3,10 @@ use crate::codings::{read_numbers, write_decoded, write_numbers, write_tokens};
 use chosen::tongues::{Tongue, code_text, read_tongue};
 use languages::language::Language;
 use languages::walk::count_tokens;
-use notation::{read_encoding, read_last_text, read_mark};
-use refusals::Refusal;
+use notation::{read_encoding, read_last_text, read_mark, read_name};
 use routes::Routes;
 use settings::Settings;
 use std::alloc::{AllocError, Global};
-
-fn number_of(heap: Global, refusal: Refusal) -> Result<String, AllocError> {
-    let number = refusal.number();
-    format!(in heap; "{number}")
-}
 
 fn tokens_in<L: Language>(heap: Global, language: &L, text: &[u8]) -> Result<String, AllocError> {
     match count_tokens(language, text) {
@@ -20,21 +14,18 @@ fn tokens_in<L: Language>(heap: Global, language: &L, text: &[u8]) -> Result<Str
             let tokens = write_tokens(heap, language, text)?;
             format!(in heap; "{count}{tokens}")
         }
-        Err(refusal) => {
-            let number = refusal.number();
-            format!(in heap; "refused {number}")
-        }
+        Err(refusal) => format!(in heap; "refused {}", refusal.number()),
     }
 }
 
 fn answer_tokens(heap: Global, fields: &[u8]) -> Result<Option<String>, AllocError> {
-    let Some(spoken) = read_tongue(fields) else {
+    let Some(tongue) = read_tongue(fields) else {
         return Ok(None);
     };
-    let Some(text) = read_last_text(heap, spoken.rest)? else {
+    let Some(text) = read_last_text(heap, tongue.rest)? else {
         return Ok(None);
     };
-    let tokens = match spoken.tongue {
+    let tokens = match tongue.value {
         Tongue::Routes => tokens_in(heap, &Routes, text.as_slice())?,
         Tongue::Settings => tokens_in(heap, &Settings, text.as_slice())?,
     };
@@ -57,32 +48,32 @@ fn answer_code(
     fields: &[u8],
     list: &mut Vec<u32>,
 ) -> Result<Option<String>, AllocError> {
-    let Some(spoken) = read_tongue(fields) else {
+    let Some(tongue) = read_tongue(fields) else {
         return Ok(None);
     };
-    let Some(named) = read_encoding(spoken.rest) else {
+    let Some(encoding) = read_encoding(tongue.rest) else {
         return Ok(None);
     };
-    let Some(rest) = read_mark(named.rest, b' ') else {
+    let Some(rest) = read_mark(encoding.rest, b' ') else {
         return Ok(None);
     };
     let Some(text) = read_last_text(heap, rest)? else {
         return Ok(None);
     };
-    match code_text(spoken.tongue, named.encoding, text.as_slice(), list) {
-        Ok(size) => Ok(Some(coded(heap, list, size)?)),
-        Err(refusal) => Ok(Some(number_of(heap, refusal)?)),
-    }
+    let answer = match code_text(tongue.value, encoding.value, text.as_slice(), list) {
+        Ok(size) => coded(heap, list, size)?,
+        Err(refusal) => format!(in heap; "{}", refusal.number())?,
+    };
+    Ok(Some(answer))
 }
 
 fn answer_decode(heap: Global, fields: &[u8]) -> Result<Option<String>, AllocError> {
-    let numbers = if fields == b"-".as_slice() {
-        Vec::new(heap)
-    } else {
-        let Some(numbers) = read_numbers(heap, fields)? else {
-            return Ok(None);
-        };
-        numbers
+    let read = match fields {
+        b"-" => Some(Vec::new(heap)),
+        _ => read_numbers(heap, fields)?,
+    };
+    let Some(numbers) = read else {
+        return Ok(None);
     };
     let decoded = write_decoded(heap, numbers.as_slice())?;
     if decoded.is_empty() {
@@ -91,21 +82,34 @@ fn answer_decode(heap: Global, fields: &[u8]) -> Result<Option<String>, AllocErr
     Ok(Some(decoded))
 }
 
+// What a case asks.
+#[derive(Clone, Copy)]
+enum Case {
+    Tokens,
+    Code,
+    Decode,
+}
+
 fn answer_case(
     heap: Global,
     line: &[u8],
     list: &mut Vec<u32>,
 ) -> Result<Option<String>, AllocError> {
-    if let Some(fields) = line.strip_prefix(b"tokens ") {
-        return answer_tokens(heap, fields);
+    let Some(case) = read_name(
+        line,
+        &[
+            (b"tokens ", Case::Tokens),
+            (b"code ", Case::Code),
+            (b"decode ", Case::Decode),
+        ],
+    ) else {
+        return Ok(None);
+    };
+    match case.value {
+        Case::Tokens => answer_tokens(heap, case.rest),
+        Case::Code => answer_code(heap, case.rest, list),
+        Case::Decode => answer_decode(heap, case.rest),
     }
-    if let Some(fields) = line.strip_prefix(b"code ") {
-        return answer_code(heap, fields, list);
-    }
-    if let Some(fields) = line.strip_prefix(b"decode ") {
-        return answer_decode(heap, fields);
-    }
-    Ok(None)
 }
 
 pub(crate) fn answer(heap: Global, line: &[u8], list: &mut Vec<u32>) -> Result<String, AllocError> {

@@ -1,7 +1,13 @@
 // Numbers and tokens as the cases write them.
+ghost use Rattle.text.specs.Positions.{IsText};
+
+use coding::coder::TOKEN_LIMIT;
 use coding::decoder::token_at;
+use coding::placed::PlacedToken;
 use languages::language::Language;
-use notation::{read_mark, read_number};
+use languages::token::Token;
+use languages::walk::ask;
+use notation::read_number;
 use std::alloc::{AllocError, Global};
 use text::places::Place;
 
@@ -12,7 +18,7 @@ pub(crate) fn write_numbers(heap: Global, numbers: &[u32]) -> Result<String, All
         if !written.is_empty() {
             written.push(',')?;
         }
-        written.push_str(format!(in heap; "{number}")?.as_str())?;
+        write!(written, "{number}")?;
     }
     Ok(written)
 }
@@ -20,61 +26,53 @@ pub(crate) fn write_numbers(heap: Global, numbers: &[u32]) -> Result<String, All
 // Numbers with commas between them, and nothing behind the last; none where that is not so.
 pub(crate) fn read_numbers(heap: Global, from: &[u8]) -> Result<Option<Vec<u32>>, AllocError> {
     let mut numbers = Vec::new(heap);
-    let mut rest = from;
-    for _ in 0..from.len() {
-        let Some(number) = read_number(rest) else {
-            return Ok(None);
-        };
-        numbers.push(number.value)?;
-        if number.rest.is_empty() {
-            return Ok(Some(numbers));
+    for field in from.split(|byte| *byte == b',') {
+        match read_number(field) {
+            Some(number) if number.rest.is_empty() => numbers.push(number.value)?,
+            _ => return Ok(None),
         }
-        let Some(next) = read_mark(number.rest, b',') else {
-            return Ok(None);
-        };
-        rest = next;
     }
-    Ok(None)
+    Ok(Some(numbers))
 }
 
 // The tokens of a coded list.
 pub(crate) fn write_decoded(heap: Global, list: &[u32]) -> Result<String, AllocError> {
     let mut written = String::new(heap);
-    for k in 0..512 {
-        let Some(token) = token_at(list, k) else {
-            break;
-        };
+    for token in (0..TOKEN_LIMIT).map_while(|k| token_at(list, k)) {
         if !written.is_empty() {
             written.push(' ')?;
         }
-        let line = token.line;
-        let column = token.column;
-        let units = token.units;
-        let kind = token.kind;
-        let modifiers = token.modifiers;
-        written.push_str(format!(in heap; "{line}:{column}+{units}:{kind}:{modifiers}")?.as_str())?;
+        let PlacedToken {
+            line,
+            column,
+            units,
+            kind,
+            modifiers,
+        } = token;
+        write!(written, "{line}:{column}+{units}:{kind}:{modifiers}")?;
     }
     Ok(written)
 }
 
-// The tokens of a text, asked one by one. A language that keeps its laws ends by itself; the count is for the others.
+// The tokens of a text, asked one by one.
 pub(crate) fn write_tokens<L: Language>(
     heap: Global,
     language: &L,
     text: &[u8],
-) -> Result<String, AllocError> {
+) -> Result<String, AllocError>
+    requires { IsText text.now }
+{
     let mut written = String::new(heap);
-    let mut from = 0;
-    for _ in 0..text.len() {
-        let Some(token) = language.next_token(text, Place(from)) else {
-            break;
-        };
-        let place = token.place.0;
-        let length = token.length;
-        let kind = token.kind;
-        let modifiers = token.modifiers;
-        written.push_str(format!(in heap; " {place}+{length}:{kind}:{modifiers}")?.as_str())?;
-        from = place.saturating_add(length);
+    let mut from = Place(0);
+    while let Some(token) = ask(language, text, from) {
+        let Token {
+            place,
+            length,
+            kind,
+            modifiers,
+        } = token;
+        write!(written, " {}+{length}:{kind}:{modifiers}", place.0)?;
+        from = Place(place.0 + length);
     }
     Ok(written)
 }

@@ -11,7 +11,8 @@ mod cases;
 mod codings;
 
 use cases::answer;
-use notation::first_line;
+use coding::coder::LIST_LIMIT;
+use notation::lines;
 use std::io;
 use std::io::Read;
 
@@ -19,16 +20,10 @@ fn main(rt: HostRuntime) -> io::Result<()> {
     let heap = rt.alloc();
     let mut input = Vec::new(heap);
     rt.stdin().read_to_end(&mut input)?;
-    let mut list = vec![in heap; 0; 2560]?;
-    let mut rest = input.as_slice();
-    for _ in 0..u64::MAX {
-        if rest.is_empty() {
-            break;
-        }
-        let line = first_line(rest);
-        let answer = answer(heap, line.content, &mut list)?;
+    let mut list = vec![in heap; 0; LIST_LIMIT]?;
+    for line in lines(input.as_slice()) {
+        let answer = answer(heap, line, &mut list)?;
         println!(rt; "{answer}")?;
-        rest = line.rest;
     }
     Ok(())
 }

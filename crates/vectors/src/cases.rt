@@ -4,12 +4,13 @@ ghost use Rattle.notation.specs.Texts.{written};
 ghost use Rattle.refusals.specs.Numbers.{number_of};
 ghost use Rattle.vectors.specs.Fields.{settled_text};
 
-use crate::fields::{Both, Order, last_texts, order_fields, spot_fields};
+use crate::fields::{Both, Order, Spot, last_texts, order_fields, spot_fields};
 use chosen::texts::{change, cut, resolve};
-use notation::{read_last_text, write_text};
+use notation::{Encoding, read_last_text, read_name, write_text};
 use refusals::Refusal;
 use std::alloc::{AllocError, Global};
 use text::lines::{line_content, line_count, line_start};
+use text::places::Position;
 use utf8::well_formed;
 
 fn answer_utf8(heap: Global, fields: &[u8]) -> Result<Option<String>, AllocError> {
@@ -31,14 +32,14 @@ fn answer_lines(heap: Global, fields: &[u8]) -> Result<Option<String>, AllocErro
     let text = bytes.as_slice();
     let count = line_count(text);
     let mut answer = format!(in heap; "{count}")?;
-    // up to the first line that is not there
-    for line in 0..u32::MAX {
-        let (Some(start), Some(content)) = (line_start(text, line), line_content(text, line)) else {
-            break;
-        };
+    let lines = (0..u32::MAX).map_while(|line| {
+        let start = line_start(text, line)?;
+        Some((start, line_content(text, line)?))
+    });
+    for (start, content) in lines {
         let place = start.0;
         let length = content.len();
-        answer.push_str(format!(in heap; " {place}+{length}")?.as_str())?;
+        write!(answer, " {place}+{length}")?;
     }
     Ok(Some(answer))
 }
@@ -49,39 +50,39 @@ fn settled(heap: Global, outcome: Result<usize, Refusal>) -> Result<String, Allo
 {
     match outcome {
         Ok(value) => format!(in heap; "0 {value}"),
-        Err(refusal) => {
-            let number = refusal.number();
-            format!(in heap; "{number}")
-        }
+        Err(refusal) => format!(in heap; "{}", refusal.number()),
     }
 }
 
-fn answer_place(heap: Global, fields: &[u8]) -> Result<Option<String>, AllocError> {
+// The answer of a call at a position in a text.
+fn answer_at<F: FnOnce(Encoding, &[u8], Position) -> Result<usize, Refusal>>(
+    heap: Global,
+    fields: &[u8],
+    call: F,
+) -> Result<Option<String>, AllocError>
+    requires { F.IsAlwaysCallable call }
+{
     let Some(spot) = spot_fields(fields) else {
         return Ok(None);
     };
     let Some(text) = read_last_text(heap, spot.rest)? else {
         return Ok(None);
     };
-    let outcome = match resolve(spot.encoding, text.as_slice(), spot.position) {
-        Ok(place) => Ok(place.0),
-        Err(refusal) => Err(refusal),
-    };
+    let Spot { encoding, position } = spot.value;
+    let outcome = call(encoding, text.as_slice(), position);
     Ok(Some(settled(heap, outcome)?))
 }
 
+fn answer_place(heap: Global, fields: &[u8]) -> Result<Option<String>, AllocError> {
+    answer_at(heap, fields, |encoding, text, position| {
+        resolve(encoding, text, position).map(|place| place.0)
+    })
+}
+
 fn answer_cut(heap: Global, fields: &[u8]) -> Result<Option<String>, AllocError> {
-    let Some(spot) = spot_fields(fields) else {
-        return Ok(None);
-    };
-    let Some(text) = read_last_text(heap, spot.rest)? else {
-        return Ok(None);
-    };
-    let outcome = match cut(spot.encoding, text.as_slice(), spot.position) {
-        Ok(column) => Ok(column.0 as usize),
-        Err(refusal) => Err(refusal),
-    };
-    Ok(Some(settled(heap, outcome)?))
+    answer_at(heap, fields, |encoding, text, position| {
+        cut(encoding, text, position).map(|column| column.0 as usize)
+    })
 }
 
 // The answer of a change that was taken: 0 and the text.
@@ -103,7 +104,7 @@ fn refused(heap: Global, refusal: Refusal, same: bool) -> Result<String, AllocEr
 }
 
 // Puts the old text at the front of memory that is long enough, lends the first bytes of it, and changes the text.
-fn try_change(heap: Global, order: Order<'_>, texts: Both) -> Result<String, AllocError> {
+fn try_change(heap: Global, order: Order, texts: Both) -> Result<String, AllocError> {
     let Both { old, new } = texts;
     let size = old.len();
     let mut before = old;
@@ -123,26 +124,39 @@ fn answer_change(heap: Global, fields: &[u8]) -> Result<Option<String>, AllocErr
     let Some(texts) = last_texts(heap, order.rest)? else {
         return Ok(None);
     };
-    Ok(Some(try_change(heap, order, texts)?))
+    Ok(Some(try_change(heap, order.value, texts)?))
+}
+
+// What a case asks.
+#[derive(Clone, Copy)]
+enum Case {
+    Utf8,
+    Lines,
+    Place,
+    Cut,
+    Change,
 }
 
 fn answer_case(heap: Global, line: &[u8]) -> Result<Option<String>, AllocError> {
-    if let Some(fields) = line.strip_prefix(b"utf8 ") {
-        return answer_utf8(heap, fields);
+    let Some(case) = read_name(
+        line,
+        &[
+            (b"utf8 ", Case::Utf8),
+            (b"lines ", Case::Lines),
+            (b"place ", Case::Place),
+            (b"cut ", Case::Cut),
+            (b"change ", Case::Change),
+        ],
+    ) else {
+        return Ok(None);
+    };
+    match case.value {
+        Case::Utf8 => answer_utf8(heap, case.rest),
+        Case::Lines => answer_lines(heap, case.rest),
+        Case::Place => answer_place(heap, case.rest),
+        Case::Cut => answer_cut(heap, case.rest),
+        Case::Change => answer_change(heap, case.rest),
     }
-    if let Some(fields) = line.strip_prefix(b"lines ") {
-        return answer_lines(heap, fields);
-    }
-    if let Some(fields) = line.strip_prefix(b"place ") {
-        return answer_place(heap, fields);
-    }
-    if let Some(fields) = line.strip_prefix(b"cut ") {
-        return answer_cut(heap, fields);
-    }
-    if let Some(fields) = line.strip_prefix(b"change ") {
-        return answer_change(heap, fields);
-    }
-    Ok(None)
 }
 
 pub(crate) fn answer(heap: Global, line: &[u8]) -> Result<String, AllocError> {

@@ -13,7 +13,7 @@ mod cases;
 mod fields;
 
 use cases::answer;
-use notation::first_line;
+use notation::lines;
 use std::io;
 use std::io::Read;
 
@@ -21,12 +21,9 @@ fn main(rt: HostRuntime) -> io::Result<()> {
     let heap = rt.alloc();
     let mut input = Vec::new(heap);
     rt.stdin().read_to_end(&mut input)?;
-    let mut rest = input.as_slice();
-    while !rest.is_empty() {
-        let line = first_line(rest);
-        let answer = answer(heap, line.content)?;
+    for line in lines(input.as_slice()) {
+        let answer = answer(heap, line)?;
         println!(rt; "{answer}")?;
-        rest = line.rest;
     }
     Ok(())
 }

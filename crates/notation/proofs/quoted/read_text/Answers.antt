@@ -1,46 +1,31 @@
-use Rattle.std.proofs.Common.{◌≡◌, ◌+◌, length, get_or, drop, vec_items, sym, ap, ◌∙◌, append-nil, arith, rules}
-use Rattle.std.proofs.lemmas.List.{take_rest}
-use Rattle.notation.specs.Texts.{spelling_of, body_of, text_of}
-use Rattle.notation.proofs.Bodies.{behind, behind_more, body_end, body_closed, body_more, body_ill}
+use Rattle.std.proofs.Common.{sym, ap, ◌∙◌, append-nil, vec_items}
+use Rattle.std.specs.Option.{option_and_then}
+use Rattle.notation.specs.Texts.{body_of}
+use Rattle.notation.proofs.Bodies.{behind, behind_none, behind_more, body_more, body_stop, text_opened}
 use Rattle.notation.proofs.quoted.read_text.Goals as goal
-use Rattle.notation.proofs.quoted.read_text.Goals.{then-loop-at-test+else-from-at-ne34, else-loop-at-test}
-
-pub returns-then-is_empty : goal.returns-then-is_empty
-unfolding text_of
-returns-then-is_empty c = search rules
-
-pub loop-at-init : goal.loop-at-init
-unfolding text_of
-loop-at-init c = search rules
 
 pub returns-in_default : goal.returns-in_default
-returns-in_default c =
-    let none = ap spelling_of (sym (take_rest c.args.from.now c.loop-at.at)) ∙ sym c.in_default.ensures.value in
-    sym (ap (behind (vec_items c.loop-at.bytes)) (body_ill c.args.from.now c.loop-at.at c.loop-at-test.true c.if-from-at-ne34.true none)) ∙ c.loop-at.invariant.1
+returns-in_default c = sym (text_opened c.args.from.now ∙ ap (option_and_then (body_of 0)) (sym c.in_default.ensures))
 
-pub loop-at-preserved : goal.loop-at-preserved
-loop-at-preserved c =
-    let rest = take_rest c.args.from.now c.loop-at.at in
-    let some = ap spelling_of (sym rest) ∙ sym c.in-Some.ensures.value in
-    let bounds = c.in-Some.ensures.bound in
-    let more = body_more c.args.from.now c.loop-at.at c.loop-at-test.true c.if-from-at-ne34.true c.in-Some.spelling.byte c.in-Some.spelling.size some bounds.0 in
-    let left = body_of 0 (drop (c.loop-at.at + c.in-Some.spelling.size) c.args.from.now) in
-    let read = sym (ap (behind (vec_items c.loop-at.bytes)) more) ∙ c.loop-at.invariant.1 in
-    (omega (arith, ap length rest), rw (c.in_ok-push.ensures.items, behind_more (vec_items c.loop-at.bytes) c.in-Some.spelling.byte left) read)
+pub loop-spelling-init : goal.loop-spelling-init
+loop-spelling-init c =
+    let rest = body_of 0 c.in-Some.rest.now in
+    ap (λ bs. behind bs rest) c.new-bytes.ensures.items ∙ behind_none rest ∙ ap (option_and_then (body_of 0)) c.in-Some.ensures ∙ sym (text_opened c.args.from.now)
 
-pub returns-then-at-from : goal.returns-then-at-from
-returns-then-at-from c =
-    sym (ap (behind (vec_items c.loop-at.bytes)) (body_end c.args.from.now c.loop-at.at (omega arith))) ∙ c.loop-at.invariant.1
+pub loop-spelling-preserved : goal.loop-spelling-preserved
+loop-spelling-preserved c =
+    let s = c.in-Some-read_spelling.spelling in
+    let read = c.in-Some-read_spelling.ensures in
+    let more = body_more c.loop-spelling.rest.now s.rest.now s.value (sym read.value) read.shorter in
+    rw (c.in_ok-push.ensures.items, behind_more (vec_items c.loop-spelling.bytes) s.value (body_of 0 s.rest.now)) (rw more at c.loop-spelling.invariant)
+
+pub returns-in_default-read_mark : goal.returns-in_default-read_mark
+returns-in_default-read_mark c =
+    let stop = body_stop c.loop-spelling.rest.now (sym c.in_default-read_spelling.ensures.value) in
+    rw (stop, ← c.in_default-read_mark.ensures) at c.loop-spelling.invariant
 
 pub returns : goal.returns
 returns c =
-    let at-quote : get_or c.args.from.now c.loop-at.at 0 ≡ 34 =
-    elim c.loop-at-test.branch [
-      | then-loop-at-test+else-from-at-ne34 w ↦ w.if-from-at-ne34.false
-      | else-loop-at-test w ↦ absurd (omega arith)
-    ] in
-    let closed = body_closed c.args.from.now c.loop-at.at (omega arith) at-quote in
-    let all = append-nil (vec_items c.loop-at.bytes) in
-    let rest = take_rest c.args.from.now (c.loop-at.at + 1) in
-    let read = sym (ap (behind (vec_items c.loop-at.bytes)) closed) ∙ c.loop-at.invariant.1 in
-    rw (rest, ← all) read
+    let stop = body_stop c.loop-spelling.rest.now (sym c.in_default-read_spelling.ensures.value) in
+    let all = append-nil (vec_items c.loop-spelling.bytes) in
+    rw (← all) (rw (stop, ← c.in-Some-read_mark.ensures) at c.loop-spelling.invariant)

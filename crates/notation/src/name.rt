@@ -1,0 +1,19 @@
+// Names at the front of bytes.
+ghost use Rattle.notation.specs.Names.{IsNamedIn};
+
+use crate::parsed::Parsed;
+
+// What a name of the table stands for, where `from` begins with one. Bytes that begin with two give the first of them.
+pub fn read_name<'a, T: Copy>(from: &'a [u8], names: &[(&[u8], T)]) -> Option<Parsed<'a, T>>
+    ensures { IsNamedIn names.now from.now result }
+{
+    for (name, value) in names {
+        if let Some(rest) = from.strip_prefix(*name) {
+            return Some(Parsed {
+                value: *value,
+                rest,
+            });
+        }
+    }
+    None
+}
