@@ -6,10 +6,9 @@ use coding::decoder::token_at;
 use coding::placed::PlacedToken;
 use languages::language::Language;
 use languages::token::Token;
-use languages::walk::ask;
+use languages::walk::Tokens;
 use notation::read_number;
 use std::alloc::{AllocError, Global};
-use text::places::Place;
 
 // Numbers with commas between them.
 pub(crate) fn write_numbers(heap: Global, numbers: &[u32]) -> Result<String, AllocError> {
@@ -54,7 +53,7 @@ pub(crate) fn write_decoded(heap: Global, list: &[u32]) -> Result<String, AllocE
     Ok(written)
 }
 
-// The tokens of a text, asked one by one.
+// The tokens of a text.
 pub(crate) fn write_tokens<L: Language>(
     heap: Global,
     language: &L,
@@ -63,8 +62,7 @@ pub(crate) fn write_tokens<L: Language>(
     requires { IsText text.now }
 {
     let mut written = String::new(heap);
-    let mut from = Place(0);
-    while let Some(token) = ask(language, text, from) {
+    for token in Tokens::new(language, text) {
         let Token {
             place,
             length,
@@ -72,7 +70,6 @@ pub(crate) fn write_tokens<L: Language>(
             modifiers,
         } = token;
         write!(written, " {}+{length}:{kind}:{modifiers}", place.0)?;
-        from = Place(place.0 + length);
     }
     Ok(written)
 }
