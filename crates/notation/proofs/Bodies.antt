@@ -2,6 +2,7 @@
 use Rattle.std.proofs.Common.{◌≡◌, ℕ, zero, suc, pred, ◌<◌, true, false, cond, ◌==◌, List, [], ◌∷◌, ◌++◌, length, drop, Some, None, Option, refl, ap, ◌∙◌, append_assoc, arith}
 use Rattle.std.specs.Option.{option_map, option_and_then}
 use Rattle.std.proofs.lemmas.List.{length-drop}
+use Rattle.std.proofs.lemmas.Option.{none-some}
 use Rattle.std.proofs.lemmas.Bool.{ne_eqb}
 use Rattle.notation.specs.Texts.{spelling_of, byte_of, ahead, body_of, text_of}
 use Rattle.notation.specs.Numbers.{behind as mark}
@@ -33,14 +34,11 @@ spelled (c ∷ cs) b (suc m) e pos =
     let here : body_of 0 (c ∷ cs) ≡ on (spelling_of (c ∷ cs)) = rw apart refl in
     here ∙ ap on e ∙ ap (ahead b) (body_skip m cs)
 
-none_some : {X : Type 0} {x : X} → ◌≡◌ {A = Option X} None (Some x) → ⊥
-none_some e = cc
-
 -- a byte is spelled at the front
 pub body_more : (bs rest : List ℕ) (b : ℕ) → byte_of bs ≡ Some (b, rest) → length rest < length bs → body_of 0 bs ≡ ahead b (body_of 0 rest)
 body_more bs rest b e shorter =
     elim (spelling_of bs) as (λ o. spelling_of bs ≡ o → option_map {T = ℕ × ℕ} {U = ℕ × List ℕ} (λ s. (s.0, drop s.1 bs)) o ≡ Some (b, rest) → body_of 0 bs ≡ ahead b (body_of 0 rest)) [
-      | None ↦ λ h e. absurd (none_some e)
+      | None ↦ λ h e. absurd (none-some _ e)
       | Some s ↦ λ h e.
           let pair : ◌≡◌ {A = ℕ × List ℕ} (s.0, drop s.1 bs) (b, rest) = cc in
           let byte = ap (λ p. p.0) pair in
