@@ -1,15 +1,15 @@
 // The relative coding of a text's tokens.
 ghost use Rattle.std.specs.Prelude.{◌≡◌, ◌+◌, ◌-◌, ◌<◌, ◌≤◌, [], ◌∷◌, ◌++◌, length, take, if◌then◌else◌, MatchResult, nat_eq};
-ghost use Rattle.text.specs.Positions.{IsText};
 ghost use Rattle.languages.specs.Tokens.{tokens};
 ghost use Rattle.refusals.specs.Outcomes.{outcome};
 ghost use Rattle.coding.specs.Coding.{fresh, code_rule, leaves, TokensAreInOrder, FreshCodingsFitWords, FirstTokensCodeFirst};
 
 use crate::cursor::Cursor;
 use languages::language::Language;
-use languages::walk::{Tokens, count_tokens};
+use languages::walk::{Tokens, count_in};
 use lists::growing::Growing;
 use refusals::Refusal;
+use text::changes::Text;
 use text::encodings::PositionEncoding;
 
 // The most tokens of a list, and the numbers that these are.
@@ -46,14 +46,13 @@ fn column_from(before: Cursor, start: Cursor) -> u32
 fn gather<L: Language, E: PositionEncoding>(
     language: &L,
     encoding: &E,
-    text: &[u8],
+    text: Text<'_>,
     list: &mut [u32],
 ) -> usize
-    requires text { IsText text.now }
-    requires few { length (tokens (L.next language.now) text.now) ≤ 512 }
+    requires few { length (tokens (L.next language.now) text.bytes.now) ≤ 512 }
     requires room { 2560 ≤ length list.old }
-    ensures size { result ≡ length (fresh (E.units encoding.now) (L.next language.now) text.now) }
-    ensures numbers { take result list.new ≡ fresh (E.units encoding.now) (L.next language.now) text.now }
+    ensures size { result ≡ length (fresh (E.units encoding.now) (L.next language.now) text.entry.bytes.now) }
+    ensures numbers { take result list.new ≡ fresh (E.units encoding.now) (L.next language.now) text.entry.bytes.now }
 {
     let mut numbers = Growing::new(list);
     let mut cursor = Cursor {
@@ -63,8 +62,8 @@ fn gather<L: Language, E: PositionEncoding>(
     };
     let mut before = cursor;
     for token in Tokens::new(language, text) {
-        let start = cursor.advance(encoding, text, token.place.0);
-        let end = start.advance(encoding, text, start.at + token.length);
+        let start = cursor.advance(encoding, text.bytes, token.place.0);
+        let end = start.advance(encoding, text.bytes, start.at + token.length);
         let lines = start.line.saturating_sub(before.line);
         let columns = column_from(before, start);
         let units = end.column - start.column;
@@ -94,7 +93,8 @@ pub fn code<L: Language, E: PositionEncoding>(
     if list.len() < LIST_LIMIT {
         return Err(Refusal::Memory);
     }
-    let count = count_tokens(language, text)?;
+    let text = Text::new(text)?;
+    let count = count_in(language, text);
     if count > TOKEN_LIMIT {
         return Err(Refusal::TooManyTokens);
     }

@@ -1,10 +1,12 @@
 // Tokens read back out of a coded list.
-ghost use Rattle.std.specs.Prelude.{◌≡◌, ◌+◌, ◌*◌, ◌^◌, ◌<◌, length, if◌then◌else◌, nat_eq};
+ghost use Rattle.std.specs.Prelude.{◌≡◌, ◌+◌, ◌*◌, ◌^◌, ◌<◌, List, length, take, if◌then◌else◌, nat_eq};
 ghost use Rattle.std.specs.Iterator.{YieldsFirst, item_count};
-ghost use Rattle.coding.specs.Coding.{decode, token_at, DecodingUndoesCoding};
+ghost use Rattle.coding.specs.declared.placed.PlacedToken.{PlacedToken};
+ghost use Rattle.coding.specs.Coding.{list_limit, decode, token_at, DecodingUndoesCoding};
 
 use crate::coder::LIST_LIMIT;
 use crate::placed::PlacedToken;
+use std::marker::Model;
 
 // The column that a token has, from the column of the one before where both share a line.
 fn column_after(column: u64, lines: u64, columns: u64) -> u64
@@ -18,22 +20,42 @@ fn column_after(column: u64, lines: u64, columns: u64) -> u64
     }
 }
 
-// The tokens of a coded list, one after another: five numbers each, from the line and column of the token before.
+// The tokens of a coded list, one after another: five numbers each, from the line and column of the token before. Seen as
+// the list of those that are left. Two sums of 32-bit numbers, one for each number that is left, fit 64 bits.
 #[derive(Drop)]
-struct Decoded<'a> {
+pub struct Decoded<'a> {
     rest: &'a [u32],
     line: u64,
     column: u64,
-    ghost line_fits: { line + length rest.now * 2 ^ 32 < 2 ^ 64 },
-    ghost column_fits: { column + length rest.now * 2 ^ 32 < 2 ^ 64 },
+}
+
+impl<'a> Model for Decoded<'a> {
+    ghost Value = { List PlacedToken };
+
+    ghost view = { λ s. decode s.line s.column s.rest.now };
+
+    ghost invariant = { λ s. (s.line + length s.rest.now * 2 ^ 32 < 2 ^ 64) × (s.column + length s.rest.now * 2 ^ 32 < 2 ^ 64) };
+}
+
+impl<'a> Decoded<'a> {
+    // A list has at most 512 tokens: numbers past the first 2,560 are not looked at.
+    pub fn new(list: &'a [u32]) -> Decoded<'a>
+        ensures { result ≡ decode 0 0 (take list_limit list.now) }
+    {
+        Decoded {
+            rest: &list[..list.len().min(LIST_LIMIT)],
+            line: 0,
+            column: 0,
+        }
+    }
 }
 
 impl<'a> Iterator for Decoded<'a> {
     type Item = PlacedToken;
 
-    ghost next_gives = { YieldsFirst (λ s. decode s.line s.column s.rest.now) };
+    ghost next_gives = { YieldsFirst (λ s. s) };
 
-    ghost remaining = { item_count (λ s. decode s.line s.column s.rest.now) };
+    ghost remaining = { item_count (λ s. s) };
 
     #[tactic(auto, using(crate::proofs::Fives::decode_five))]
     fn next(&mut self) -> Option<PlacedToken> {
@@ -54,17 +76,10 @@ impl<'a> Iterator for Decoded<'a> {
     }
 }
 
-// Token k of a coded list, counted from 0, none where the list has no such token. A list has at most 512 tokens: numbers
-// past the first 2,560 are not looked at.
+// Token k of a coded list, counted from 0, none where the list has no such token.
 pub fn token_at(list: &[u32], k: usize) -> Option<PlacedToken>
     ensures token { result ≡ token_at list.now k }
     ensures back { DecodingUndoesCoding }
 {
-    let rest = &list[..list.len().min(LIST_LIMIT)];
-    let mut tokens = Decoded {
-        rest,
-        line: 0,
-        column: 0,
-    };
-    tokens.nth(k)
+    Decoded::new(list).nth(k)
 }

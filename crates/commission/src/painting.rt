@@ -1,8 +1,7 @@
 // A text in colours: each token by its type, out of the coded list that is decoded again.
 use chosen::texts::resolve;
 use chosen::tongues::Tongue;
-use coding::coder::TOKEN_LIMIT;
-use coding::decoder::token_at;
+use coding::decoder::Decoded;
 use coding::placed::PlacedToken;
 use notation::Encoding;
 use std::alloc::{AllocError, Global};
@@ -102,7 +101,7 @@ fn paint_tokens(
 ) -> Result<Vec<u8>, AllocError> {
     let mut painted = Vec::new(heap);
     let mut at = 0;
-    for token in (0..TOKEN_LIMIT).map_while(|k| token_at(list, k)) {
+    for token in Decoded::new(list) {
         let Some(span) = span_of(encoding, text, token) else {
             break;
         };

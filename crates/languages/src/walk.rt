@@ -10,6 +10,7 @@ use crate::language::Language;
 use crate::token::Token;
 use refusals::Refusal;
 use std::marker::Model;
+use text::changes::Text;
 use text::places::Place;
 
 // The next token from a place on, with what the laws say of a text's: it fits, and it is the first of those that are left.
@@ -20,27 +21,26 @@ pub fn ask<L: Language>(language: &L, text: &[u8], from: Place) -> Option<Token>
     language.next_token(text, from)
 }
 
-// The tokens of a text, one after another; seen as the list of those that are left. They are of a text, since only there
-// the laws say that they come to an end.
+// The tokens of a text, one after another; seen as the list of those that are left. Only of a text do the laws say that
+// they come to an end.
 #[derive(Drop)]
 pub struct Tokens<'a, L: Language> {
     language: &'a L,
-    text: &'a [u8],
+    text: Text<'a>,
     from: Place,
 }
 
 impl<'a, L: Language> Model for Tokens<'a, L> {
     ghost Value = { List Token };
 
-    ghost view = { λ s. rest (L.next s.language.now) s.text.now s.from.0 };
+    ghost view = { λ s. rest (L.next s.language.now) s.text.bytes.now s.from.0 };
 
-    ghost invariant = { λ s. IsText s.text.now };
+    ghost invariant = { λ s. IsText s.text.bytes.now };
 }
 
 impl<'a, L: Language> Tokens<'a, L> {
-    pub fn new(language: &'a L, text: &'a [u8]) -> Tokens<'a, L>
-        requires { IsText text.now }
-        ensures { result ≡ tokens (L.next language.now) text.now }
+    pub fn new(language: &'a L, text: Text<'a>) -> Tokens<'a, L>
+        ensures { result ≡ tokens (L.next language.now) text.entry.bytes.now }
     {
         Tokens {
             language,
@@ -58,16 +58,23 @@ impl<'a, L: Language> Iterator for Tokens<'a, L> {
     ghost remaining = { item_count (λ s. s) };
 
     fn next(&mut self) -> Option<Token> {
-        let token = ask(self.language, self.text, self.from)?;
+        let token = ask(self.language, self.text.bytes, self.from)?;
         self.from = Place(token.place.0 + token.length);
         Some(token)
     }
+}
+
+// How many tokens a text has.
+pub fn count_in<L: Language>(language: &L, text: Text<'_>) -> usize
+    ensures { result ≡ length (tokens (L.next language.now) text.entry.bytes.now) }
+{
+    Tokens::new(language, text).count()
 }
 
 // How many tokens the text has: 7 where they are too many, 8 where they are ill-formed.
 pub fn count_tokens<L: Language>(language: &L, text: &[u8]) -> Result<usize, Refusal>
     ensures { outcome (λ n. n) result tt ≡ count_rule (L.next language.now) text.now }
 {
-    text::changes::check(text)?;
-    Ok(Tokens::new(language, text).count())
+    let text = Text::new(text)?;
+    Ok(count_in(language, text))
 }

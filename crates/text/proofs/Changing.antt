@@ -8,11 +8,12 @@ use Rattle.refusals.specs.Outcomes.{refused, taken, settle, outcome}
 use Rattle.refusals.proofs.Settles.{settle_on, settle_stop, settle_taken, settle_passes}
 use Rattle.lists.specs.Splices.{kept, holds, ended, replaced, splice_rule}
 use Rattle.lists.proofs.Splicing.{held, stays, fits_from, fits_size, replaced_length}
+use Rattle.text.specs.declared.changes.Text.{Text}
 use Rattle.text.specs.declared.places.Position.{Position}
 use Rattle.text.specs.Places.{Range}
 use Rattle.text.specs.Lines.{is_end, later, start_of}
 use Rattle.text.specs.Columns.{wide, seek}
-use Rattle.text.specs.Positions.{IsText, limit, or0, place_of, typed, text_checks, range_checks, check_rule, range_rule, unsound, Changed, change_rule, leaves}
+use Rattle.text.specs.Positions.{IsText, limit, or0, place_of, typed, text_checks, range_checks, check_rule, text_rule, range_rule, unsound, Changed, change_rule, leaves}
 use Rattle.utf8.proofs.Syntax.{test_decides_utf8}
 use Rattle.text.proofs.Starts.{starts, start_within}
 
@@ -75,6 +76,14 @@ pub checked_text : (t : List ℕ) → taken tt ≡ check_rule t → IsText t
 checked_text t e =
     let ok = settle_passes (tt {0}) (tt {0}) (text_checks t) tt (sym e) in
     record { whole = (test_decides_utf8 t).0 (not-false _ ok.1.0); short = ltb-false _ _ ok.0 }
+
+-- and is that text
+pub text_is : (t x : List ℕ) → taken x ≡ text_rule t → x ≡ t
+text_is t x e = (settle_taken (tt {0}) t (tt {0}) (tt {0}) (text_checks t) x (sym e)).0
+
+-- a text that was checked keeps that it is one
+pub is_text : (t : Text) → IsText t.bytes.now
+is_text t = record { whole = (test_decides_utf8 t.bytes.now).0 t.whole; short = t.short }
 
 pub roomy : (m : List ℕ) (n : ℕ) → unsound m n ≡ false → (limit ≤ length m) × (n ≤ limit)
 roomy m n sound =

@@ -80,6 +80,10 @@ text_checks t = (7, nat_lt limit (length t)) ∷ ((8, not (well_formed t)) ∷ [
 abbrev pub check_rule : List ℕ → Outcome (Unit {0}) (Unit {0})
 check_rule t = settle (text_checks t) tt tt
 
+-- the bytes as a text
+abbrev pub text_rule : List ℕ → Outcome (Unit {0}) (List ℕ)
+text_rule t = settle (text_checks t) tt t
+
 -- memory that is to hold a text of n bytes is too short for any text, or what it holds is no text
 abbrev pub unsound : List ℕ → ℕ → Bool
 unsound memory n = nat_lt (length memory) limit || (nat_lt limit n || not (well_formed (take n memory)))

@@ -1,8 +1,9 @@
 // Texts in lent memory, and changes of them.
-ghost use Rattle.std.specs.Prelude.{◌≡◌, not};
+ghost use Rattle.std.specs.Prelude.{◌≡◌, ◌≤◌, not, length, IsTrue};
 ghost use Rattle.refusals.specs.Outcomes.{outcome};
+ghost use Rattle.utf8.specs.Grammar.{well_formed};
 ghost use Rattle.text.specs.Laws.{ChangesOfTextsAreTexts, EarlierLinesStay};
-ghost use Rattle.text.specs.Positions.{check_rule, unsound, change_rule, leaves};
+ghost use Rattle.text.specs.Positions.{text_rule, check_rule, unsound, change_rule, leaves};
 
 use crate::encodings::PositionEncoding;
 use crate::places::Range;
@@ -26,6 +27,24 @@ pub fn check(text: &[u8]) -> Result<(), Refusal>
         return Err(Refusal::IllFormed);
     }
     Ok(())
+}
+
+// Bytes that are a text.
+#[derive(Clone, Copy)]
+pub struct Text<'a> {
+    pub bytes: &'a [u8],
+    ghost whole: { IsTrue (well_formed bytes.now) },
+    ghost short: { length bytes.now ≤ 8192 },
+}
+
+impl<'a> Text<'a> {
+    // The bytes as a text: 7 where they are too many, 8 where they are ill-formed.
+    pub fn new(bytes: &'a [u8]) -> Result<Text<'a>, Refusal>
+        ensures { outcome (λ t. t.bytes.now) result tt ≡ text_rule bytes.now }
+    {
+        check(bytes)?;
+        Ok(Text { bytes })
+    }
 }
 
 // Whether the memory can keep any text, and its first `length` bytes are one.

@@ -2,15 +2,17 @@
 use crate::codings::{read_numbers, write_decoded, write_numbers, write_tokens};
 use chosen::tongues::{Tongue, code_text, read_tongue};
 use languages::language::Language;
-use languages::walk::count_tokens;
+use languages::walk::count_in;
 use notation::{read_encoding, read_last_text, read_mark, read_name};
 use routes::Routes;
 use settings::Settings;
 use std::alloc::{AllocError, Global};
+use text::changes::Text;
 
 fn tokens_in<L: Language>(heap: Global, language: &L, text: &[u8]) -> Result<String, AllocError> {
-    match count_tokens(language, text) {
-        Ok(count) => {
+    match Text::new(text) {
+        Ok(text) => {
+            let count = count_in(language, text);
             let tokens = write_tokens(heap, language, text)?;
             format!(in heap; "{count}{tokens}")
         }

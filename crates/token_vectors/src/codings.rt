@@ -1,14 +1,12 @@
 // Numbers and tokens as the cases write them.
-ghost use Rattle.text.specs.Positions.{IsText};
-
-use coding::coder::TOKEN_LIMIT;
-use coding::decoder::token_at;
+use coding::decoder::Decoded;
 use coding::placed::PlacedToken;
 use languages::language::Language;
 use languages::token::Token;
 use languages::walk::Tokens;
 use notation::read_number;
 use std::alloc::{AllocError, Global};
+use text::changes::Text;
 
 // Numbers with commas between them.
 pub(crate) fn write_numbers(heap: Global, numbers: &[u32]) -> Result<String, AllocError> {
@@ -37,7 +35,7 @@ pub(crate) fn read_numbers(heap: Global, from: &[u8]) -> Result<Option<Vec<u32>>
 // The tokens of a coded list.
 pub(crate) fn write_decoded(heap: Global, list: &[u32]) -> Result<String, AllocError> {
     let mut written = String::new(heap);
-    for token in (0..TOKEN_LIMIT).map_while(|k| token_at(list, k)) {
+    for token in Decoded::new(list) {
         if !written.is_empty() {
             written.push(' ')?;
         }
@@ -57,10 +55,8 @@ pub(crate) fn write_decoded(heap: Global, list: &[u32]) -> Result<String, AllocE
 pub(crate) fn write_tokens<L: Language>(
     heap: Global,
     language: &L,
-    text: &[u8],
-) -> Result<String, AllocError>
-    requires { IsText text.now }
-{
+    text: Text<'_>,
+) -> Result<String, AllocError> {
     let mut written = String::new(heap);
     for token in Tokens::new(language, text) {
         let Token {

@@ -1,4 +1,5 @@
 use Rattle.std.proofs.Common.{◌≡◌, ◌++◌, map, length, take, sym, refl, ap, ◌∙◌, arith, rules, append-nil}
+use Rattle.text.proofs.Changing.{is_text}
 use Rattle.languages.specs.Tokens.{rest, tokens, end}
 use Rattle.coding.specs.Placing.{line_of, column_of, placed}
 use Rattle.coding.specs.Coding.{code, fresh}
@@ -9,7 +10,7 @@ pub loop-token-init : goal.loop-token-init
 unfolding fresh tokens
 loop-token-init g c =
     let u = g.E.PositionEncoding.units c.args.encoding.now in
-    let t = c.args.text.now in
+    let t = c.args.text.bytes.now in
     let all : c.into_iter-token-iterator.result ≡ tokens (g.L.Language.next c.args.language.now) t = c.into_iter-token-iterator.ensures.into_iter_gives ∙ c.new-token-items.ensures in
     record {
       can = tt;
@@ -25,30 +26,30 @@ loop-token-init g c =
 
 pub advance-start-requires-clause-forward : goal.advance-start-requires-clause-forward
 advance-start-requires-clause-forward g c =
-    let first = next_left (g.met.L.Language.lawful c.args.language.now) c.args.text.now c.requires.text _ _ _ _ c.loop-token.invariant.left c.in-Some.ensures.steps in
+    let first = next_left (g.met.L.Language.lawful c.args.language.now) c.args.text.bytes.now (is_text c.args.text) _ _ _ _ c.loop-token.invariant.left c.in-Some.ensures.steps in
     first.0.start
 
 pub advance-start-requires-clause-within : goal.advance-start-requires-clause-within
 advance-start-requires-clause-within g c =
-    let first = next_left (g.met.L.Language.lawful c.args.language.now) c.args.text.now c.requires.text _ _ _ _ c.loop-token.invariant.left c.in-Some.ensures.steps in
+    let first = next_left (g.met.L.Language.lawful c.args.language.now) c.args.text.bytes.now (is_text c.args.text) _ _ _ _ c.loop-token.invariant.left c.in-Some.ensures.steps in
     omega (arith, first.0.inside)
 
 pub overflow_add-start : goal.overflow_add-start
 overflow_add-start g c =
-    let first = next_left (g.met.L.Language.lawful c.args.language.now) c.args.text.now c.requires.text _ _ _ _ c.loop-token.invariant.left c.in-Some.ensures.steps in
-    omega (arith, first.0.inside, c.requires.text.short)
+    let first = next_left (g.met.L.Language.lawful c.args.language.now) c.args.text.bytes.now (is_text c.args.text) _ _ _ _ c.loop-token.invariant.left c.in-Some.ensures.steps in
+    omega (arith, first.0.inside, c.args.text.short)
 
 pub advance-end-requires-clause-within : goal.advance-end-requires-clause-within
 advance-end-requires-clause-within g c =
-    let first = next_left (g.met.L.Language.lawful c.args.language.now) c.args.text.now c.requires.text _ _ _ _ c.loop-token.invariant.left c.in-Some.ensures.steps in
+    let first = next_left (g.met.L.Language.lawful c.args.language.now) c.args.text.bytes.now (is_text c.args.text) _ _ _ _ c.loop-token.invariant.left c.in-Some.ensures.steps in
     omega (arith, first.0.inside)
 
 pub overflow_sub-units : goal.overflow_sub-units
 overflow_sub-units g c =
     let u = g.E.PositionEncoding.units c.args.encoding.now in
-    let t = c.args.text.now in
+    let t = c.args.text.bytes.now in
     let k = c.in-Some.token in
-    let first = next_left (g.met.L.Language.lawful c.args.language.now) t c.requires.text _ _ _ _ c.loop-token.invariant.left c.in-Some.ensures.steps in
+    let first = next_left (g.met.L.Language.lawful c.args.language.now) t (is_text c.args.text) _ _ _ _ c.loop-token.invariant.left c.in-Some.ensures.steps in
     let there : c.advance-end.result.at ≡ end k = omega arith in
     let start : c.advance-start.result.column ≡ column_of u t k.place.0 0 = c.advance-start.ensures.there.column ∙ ap (λ n. column_of u t n 0) c.advance-start.ensures.at in
     let stop : c.advance-end.result.column ≡ column_of u t (end k) 0 = c.advance-end.ensures.there.column ∙ ap (λ n. column_of u t n 0) there in
@@ -61,13 +62,13 @@ pub loop-token-preserved : goal.loop-token-preserved
 loop-token-preserved g c =
     let u = g.E.PositionEncoding.units c.args.encoding.now in
     let next = g.L.Language.next c.args.language.now in
-    let t = c.args.text.now in
+    let t = c.args.text.bytes.now in
     let inv = c.loop-token.invariant in
     let k = c.in-Some.token in
     let before = c.loop-token.before in
     let old = take c.loop-token.numbers.used c.loop-token.numbers.slots.now in
     let others = c.next.new.self in
-    let first = next_left (g.met.L.Language.lawful c.args.language.now) t c.requires.text _ _ _ _ inv.left c.in-Some.ensures.steps in
+    let first = next_left (g.met.L.Language.lawful c.args.language.now) t (is_text c.args.text) _ _ _ _ inv.left c.in-Some.ensures.steps in
     let there : c.advance-end.result.at ≡ end k = omega arith in
     let line : c.advance-start.result.line ≡ line_of t k.place.0 = c.advance-start.ensures.there.line ∙ ap (line_of t) c.advance-start.ensures.at in
     let column : c.advance-start.result.column ≡ column_of u t k.place.0 0 = c.advance-start.ensures.there.column ∙ ap (λ n. column_of u t n 0) c.advance-start.ensures.at in
@@ -90,7 +91,7 @@ pub returns : goal.returns
 returns g c =
     let u = g.E.PositionEncoding.units c.args.encoding.now in
     let next = g.L.Language.next c.args.language.now in
-    let t = c.args.text.now in
+    let t = c.args.text.bytes.now in
     let inv = c.loop-token.invariant in
     let before = c.loop-token.before in
     let done = c.in-None.ensures.steps.0 in
