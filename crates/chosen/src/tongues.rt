@@ -31,6 +31,7 @@ pub fn read_tongue(from: &[u8]) -> Option<Parsed<'_, Tongue>>
     )
 }
 
+// A match over the units, as each call of `texts` has one.
 fn code_in<L: Language>(
     language: &L,
     encoding: Encoding,

@@ -63,6 +63,7 @@ fn paint(painted: &mut Vec<u8>, style: &Style, bytes: &[u8]) -> Result<(), Alloc
 
 // Bytes between tokens; every line end is shown as LF.
 fn leave_plain(painted: &mut Vec<u8>, bytes: &[u8]) -> Result<(), AllocError> {
+    // the state of the walk, and no value stands beside it
     let mut after_cr = false;
     for b in bytes {
         match *b {

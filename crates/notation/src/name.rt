@@ -3,7 +3,7 @@ ghost use Rattle.notation.specs.Names.{IsNamedIn};
 
 use crate::parsed::Parsed;
 
-// What a name of the table stands for, where `from` begins with one. Bytes that begin with two give the first of them.
+// What a name of the table stands for, the first that `from` begins with, and what follows the name.
 pub fn read_name<'a, T: Copy>(from: &'a [u8], names: &[(&[u8], T)]) -> Option<Parsed<'a, T>>
     ensures { IsNamedIn names.now from.now result }
 {

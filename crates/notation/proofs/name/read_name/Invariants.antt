@@ -1,5 +1,6 @@
-use Rattle.std.proofs.Common.{ℕ, List, ◌≢◌, ◌++◌, ◌<◌, slice_index_or}
+use Rattle.std.proofs.Common.{take}
+use Rattle.notation.specs.Names.{IsUnnamed}
 use Rattle.notation.proofs.name.read_name.Given as goal
 
 abbrev pub invariant-loop-name : goal.invariant-loop-name
-invariant-loop-name g l = (k : ℕ) (d : _) → k < l.name-index → (rest : List ℕ) → l.from ≢ (slice_index_or l.names k d).0.now ++ rest
+invariant-loop-name g l = IsUnnamed (take l.name-index l.names) l.from
