@@ -77,8 +77,8 @@ fn gather<L: Language, E: PositionEncoding>(
     numbers.len()
 }
 
-// Codes a text into a lent list of 2,560 numbers, and answers how many it has. The tokens are counted before anything is
-// written, so a refusal leaves every number as it was.
+// Codes a text into a lent list of 2,560 numbers, and answers how many it has: the list is lent, so it is no `Vec`. The
+// tokens are counted before anything is written, so a refusal leaves every number as it was.
 pub fn code<L: Language, E: PositionEncoding>(
     language: &L,
     encoding: &E,

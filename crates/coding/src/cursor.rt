@@ -27,6 +27,7 @@ impl Cursor {
     {
         let mut line = self.line;
         let mut column = self.column;
+        // over places: whether a line ends behind a byte turns on the byte after it
         for at in self.at..to {
             if ends_line(text, at) {
                 line += 1;

@@ -83,6 +83,7 @@ impl Session {
         self.size = Some(text.len());
     }
 
+    // `open` and `replace` stay two: one asks that there is no text, the other that there is one.
     fn open(&mut self, text: &[u8]) -> Result<(), Refusal>
         ensures { outcome (λ _. view self.new) result (view self.new) ≡ open_rule (view self.old) text.now }
     {

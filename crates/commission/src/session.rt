@@ -11,7 +11,8 @@ pub struct Session {
     pub tongue: Tongue,
     // A call was made, so the encoding and the language stay.
     pub called: bool,
-    // The first bytes hold the text, where there is one.
+    // The first bytes hold the text, where there is one: the library changes a text in memory that it is lent, with the
+    // length beside.
     pub memory: Vec<u8>,
     // How many bytes the text has.
     pub size: Option<usize>,

@@ -41,6 +41,7 @@ pub fn scan<R: Reader>(reader: &R, text: &[u8], from: Place) -> Option<Token>
         return None;
     }
     let mut clear = is_clear(text, from);
+    // over places: a piece is read from all that is left of the text there
     for at in from.0..text.len() {
         if let Some(piece) = start(reader, clear, &text[at..]) {
             return Some(Token {
