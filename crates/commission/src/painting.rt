@@ -47,6 +47,11 @@ static STYLES: [Style; 7] = [
     },
 ];
 
+// How a token of the type is painted; a type that no language here has, as the last.
+fn style_of(kind: u32) -> &'static Style {
+    STYLES.get(kind as usize).unwrap_or(&STYLES[6])
+}
+
 // The types of a language.
 fn styles_of(tongue: Tongue) -> &'static [Style] {
     match tongue {
@@ -111,11 +116,8 @@ fn paint_tokens(
         let (Some(between), Some(bytes)) = (text.get(at..start), text.get(start..end)) else {
             break;
         };
-        let Some(style) = STYLES.get(token.kind as usize) else {
-            break;
-        };
         leave_plain(&mut painted, between)?;
-        paint(&mut painted, style, bytes)?;
+        paint(&mut painted, style_of(token.kind), bytes)?;
         at = end;
     }
     if let Some(left) = text.get(at..) {
