@@ -79,7 +79,7 @@ impl Session {
         requires { length text.now ≤ 8192 }
         ensures { view self.new ≡ holding text.now (view self.old) }
     {
-        self.memory[0..text.len()].copy_from_slice(text);
+        self.memory[..text.len()].copy_from_slice(text);
         self.size = Some(text.len());
     }
 
@@ -109,8 +109,8 @@ impl Session {
     fn type_text(&mut self, range: Range, inserted: &[u8]) -> Result<(), Refusal>
         ensures { outcome (λ _. view self.new) result (view self.new) ≡ type_rule (view self.old) range inserted.now }
     {
-        let size = check_ready(&self.memory[0..self.lent], self.size, inserted)?;
-        let lent = &mut self.memory[0..self.lent];
+        let size = check_ready(&self.memory[..self.lent], self.size, inserted)?;
+        let lent = &mut self.memory[..self.lent];
         self.size = Some(change(self.encoding, lent, size, range, inserted)?);
         Ok(())
     }

@@ -4,8 +4,8 @@ ghost use Rattle.commission.specs.Fields.{blank, passed_over, lend_of};
 
 use chosen::fields::position_field;
 use chosen::tongues::Tongue;
-use notation::{Encoding, read_encoding, read_last_text, read_name, read_number};
-use std::alloc::{AllocError, Global};
+use notation::{Encoding, Unread, read_encoding, read_last_text, read_name, read_number};
+use std::alloc::Global;
 use text::places::Range;
 
 #[derive(Drop)]
@@ -65,37 +65,26 @@ fn is_blank(line: &[u8]) -> bool
 pub(crate) fn is_passed_over(line: &[u8]) -> bool
     ensures { result ≡ passed_over line.now }
 {
-    match line {
-        [b'#', ..] => true,
-        _ => is_blank(line),
-    }
+    line.starts_with(b"#") || is_blank(line)
 }
 
 fn read_lend(fields: &[u8]) -> Option<Command>
     ensures { result ≡ lend_of fields.now }
 {
     let number = read_number(fields)?;
-    if !number.rest.is_empty() || number.value > MOST_LENT {
-        return None;
-    }
-    Some(Command::Lend(number.value as usize))
+    let fits = number.rest.is_empty() && number.value <= MOST_LENT;
+    fits.then_some(Command::Lend(number.value as usize))
 }
 
-fn read_typing(heap: Global, fields: &[u8]) -> Result<Option<Typing>, AllocError> {
-    let Some(start) = position_field(fields) else {
-        return Ok(None);
-    };
-    let Some(end) = position_field(start.rest) else {
-        return Ok(None);
-    };
-    let Some(inserted) = read_last_text(heap, end.rest)? else {
-        return Ok(None);
-    };
+fn read_typing(heap: Global, fields: &[u8]) -> Result<Typing, Unread> {
+    let start = position_field(fields).ok_or(Unread::IllFormed)?;
+    let end = position_field(start.rest).ok_or(Unread::IllFormed)?;
+    let inserted = read_last_text(heap, end.rest)?.ok_or(Unread::IllFormed)?;
     let range = Range {
         start: start.value,
         end: end.value,
     };
-    Ok(Some(Typing { range, inserted }))
+    Ok(Typing { range, inserted })
 }
 
 // The words that begin a call.
@@ -106,22 +95,25 @@ enum Word {
     Type,
 }
 
-fn read_call(heap: Global, line: &[u8]) -> Result<Option<Call>, AllocError> {
-    let Some(word) = read_name(
+fn read_call(heap: Global, line: &[u8]) -> Result<Call, Unread> {
+    let word = read_name(
         line,
         &[
             (b"open ", Word::Open),
             (b"replace ", Word::Replace),
             (b"type ", Word::Type),
         ],
-    ) else {
-        return Ok(None);
-    };
-    Ok(match word.value {
-        Word::Open => read_last_text(heap, word.rest)?.map(Call::Open),
-        Word::Replace => read_last_text(heap, word.rest)?.map(Call::Replace),
-        Word::Type => read_typing(heap, word.rest)?.map(Call::Type),
-    })
+    )
+    .ok_or(Unread::IllFormed)?;
+    match word.value {
+        Word::Open => read_last_text(heap, word.rest)?
+            .map(Call::Open)
+            .ok_or(Unread::IllFormed),
+        Word::Replace => read_last_text(heap, word.rest)?
+            .map(Call::Replace)
+            .ok_or(Unread::IllFormed),
+        Word::Type => read_typing(heap, word.rest).map(Call::Type),
+    }
 }
 
 // The command that is no call, none where the line is another.
@@ -143,10 +135,11 @@ fn read_setting(line: &[u8]) -> Option<Command> {
     }
 }
 
-// The command on a line, none where there is none.
-pub(crate) fn read_command(heap: Global, line: &[u8]) -> Result<Option<Command>, AllocError> {
-    if let Some(call) = read_call(heap, line)? {
-        return Ok(Some(Command::Call(call)));
+// The command on a line.
+pub(crate) fn read_command(heap: Global, line: &[u8]) -> Result<Command, Unread> {
+    match read_call(heap, line) {
+        Ok(call) => Ok(Command::Call(call)),
+        Err(Unread::IllFormed) => read_setting(line).ok_or(Unread::IllFormed),
+        Err(error) => Err(error),
     }
-    Ok(read_setting(line))
 }

@@ -25,7 +25,7 @@ use chosen::tongues::code_text;
 use coding::coder::LIST_LIMIT;
 use command::{Command, is_passed_over, read_command};
 use examples::worked_examples;
-use notation::lines;
+use notation::{Unread, lines};
 use painting::show;
 use refusals::Refusal;
 use session::Session;
@@ -86,8 +86,10 @@ fn carry_out(
     number: u64,
     line: &[u8],
 ) -> io::Result<()> {
-    let Some(command) = read_command(rt.alloc(), line)? else {
-        return println!(rt; "{number}: no call");
+    let command = match read_command(rt.alloc(), line) {
+        Ok(command) => command,
+        Err(Unread::IllFormed) => return println!(rt; "{number}: no call"),
+        Err(Unread::NoMemory(error)) => return Err(io::Error::from(error)),
     };
     match command {
         Command::Choose(choice) => {

@@ -5,12 +5,13 @@ ghost use Rattle.std.specs.Prelude.{◌≡◌, ◌+◌, ◌<◌, ◌≤◌, min,
 #[derive(Clone, Copy)]
 pub struct Full;
 
-// The list is the first `used` entries of the slice, which is lent: a `Vec` would own its memory. The clauses on names say that it stays the lender's slice, so that
-// the lender knows what it holds afterwards.
+// The list is the first `used` entries of the slice, which is lent: a `Vec` would own its memory. The clauses on names
+// say that it stays the lender's slice, so that the lender knows what it holds afterwards.
 #[derive(Drop)]
 pub struct Growing<'a, T> {
     slots: &'a mut [T],
     used: usize,
+    ghost inside: { used ≤ length slots.now },
 }
 
 impl<'a, T: Copy> Growing<'a, T> {
@@ -54,15 +55,13 @@ impl<'a, T: Copy> Growing<'a, T> {
     pub fn as_slice(&self) -> &[T]
         ensures { result.now ≡ take self.now.used self.now.slots.now }
     {
-        let end = self.used.min(self.slots.len());
-        &self.slots[0..end]
+        &self.slots[..self.used]
     }
 
     // How many entries there are so far.
     pub fn len(&self) -> usize
         ensures { result ≡ self.now.used }
     {
-        let count = self.used;
-        count
+        self.as_slice().len()
     }
 }

@@ -43,6 +43,6 @@ pub fn copy<T: Copy>(list: &mut [T], from: &[T]) -> Option<usize>
     if count > list.len() {
         return None;
     }
-    list[0..count].copy_from_slice(from);
+    list[..count].copy_from_slice(from);
     Some(count)
 }

@@ -8,6 +8,7 @@ mod name;
 mod number;
 mod parsed;
 mod quoted;
+mod unread;
 mod writing;
 
 pub use encoding::{Encoding, read_encoding};
@@ -16,4 +17,5 @@ pub use name::read_name;
 pub use number::{read_mark, read_number, read_pair};
 pub use parsed::Parsed;
 pub use quoted::{read_last_text, read_text};
+pub use unread::Unread;
 pub use writing::write_text;

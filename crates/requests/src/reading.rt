@@ -40,10 +40,7 @@ fn read_text(body: &[u8], at: usize) -> Option<&[u8]>
     let [_, _, _, _, text @ ..] = body.get(at..)? else {
         return None;
     };
-    if text.len() != count as usize {
-        return None;
-    }
-    Some(text)
+    (text.len() == count as usize).then_some(text)
 }
 
 fn read_position(body: &[u8], at: usize) -> Option<Position>

@@ -1,9 +1,9 @@
-// The answer to each case. None where the line is no case.
+// The answer to each case.
 use crate::codings::{read_numbers, write_decoded, write_numbers, write_tokens};
 use chosen::tongues::{Tongue, code_text, read_tongue};
 use languages::language::Language;
 use languages::walk::count_in;
-use notation::{read_encoding, read_last_text, read_mark, read_name};
+use notation::{Unread, read_encoding, read_last_text, read_mark, read_name};
 use routes::Routes;
 use settings::Settings;
 use std::alloc::{AllocError, Global};
@@ -20,24 +20,20 @@ fn tokens_in<L: Language>(heap: Global, language: &L, text: &[u8]) -> Result<Str
     }
 }
 
-fn answer_tokens(heap: Global, fields: &[u8]) -> Result<Option<String>, AllocError> {
-    let Some(tongue) = read_tongue(fields) else {
-        return Ok(None);
-    };
-    let Some(text) = read_last_text(heap, tongue.rest)? else {
-        return Ok(None);
-    };
+fn answer_tokens(heap: Global, fields: &[u8]) -> Result<String, Unread> {
+    let tongue = read_tongue(fields).ok_or(Unread::IllFormed)?;
+    let text = read_last_text(heap, tongue.rest)?.ok_or(Unread::IllFormed)?;
     let tokens = match tongue.value {
         Tongue::Routes => tokens_in(heap, &Routes, text.as_slice())?,
         Tongue::Settings => tokens_in(heap, &Settings, text.as_slice())?,
     };
-    Ok(Some(tokens))
+    Ok(tokens)
 }
 
 // The coding at the front of the list.
 fn coded(heap: Global, list: &[u32], size: usize) -> Result<String, AllocError> {
     let end = size.min(list.len());
-    let numbers = write_numbers(heap, &list[0..end])?;
+    let numbers = write_numbers(heap, &list[..end])?;
     if numbers.is_empty() {
         String::from_str(heap, "0")
     } else {
@@ -45,43 +41,28 @@ fn coded(heap: Global, list: &[u32], size: usize) -> Result<String, AllocError> 
     }
 }
 
-fn answer_code(
-    heap: Global,
-    fields: &[u8],
-    list: &mut Vec<u32>,
-) -> Result<Option<String>, AllocError> {
-    let Some(tongue) = read_tongue(fields) else {
-        return Ok(None);
-    };
-    let Some(encoding) = read_encoding(tongue.rest) else {
-        return Ok(None);
-    };
-    let Some(rest) = read_mark(encoding.rest, b' ') else {
-        return Ok(None);
-    };
-    let Some(text) = read_last_text(heap, rest)? else {
-        return Ok(None);
-    };
+fn answer_code(heap: Global, fields: &[u8], list: &mut Vec<u32>) -> Result<String, Unread> {
+    let tongue = read_tongue(fields).ok_or(Unread::IllFormed)?;
+    let encoding = read_encoding(tongue.rest).ok_or(Unread::IllFormed)?;
+    let rest = read_mark(encoding.rest, b' ').ok_or(Unread::IllFormed)?;
+    let text = read_last_text(heap, rest)?.ok_or(Unread::IllFormed)?;
     let answer = match code_text(tongue.value, encoding.value, text.as_slice(), list) {
         Ok(size) => coded(heap, list, size)?,
         Err(refusal) => format!(in heap; "{}", refusal.number())?,
     };
-    Ok(Some(answer))
+    Ok(answer)
 }
 
-fn answer_decode(heap: Global, fields: &[u8]) -> Result<Option<String>, AllocError> {
-    let read = match fields {
-        b"-" => Some(Vec::new(heap)),
+fn answer_decode(heap: Global, fields: &[u8]) -> Result<String, Unread> {
+    let numbers = match fields {
+        b"-" => Vec::new(heap),
         _ => read_numbers(heap, fields)?,
-    };
-    let Some(numbers) = read else {
-        return Ok(None);
     };
     let decoded = write_decoded(heap, numbers.as_slice())?;
     if decoded.is_empty() {
-        return Ok(Some(String::from_str(heap, "none")?));
+        return Ok(String::from_str(heap, "none")?);
     }
-    Ok(Some(decoded))
+    Ok(decoded)
 }
 
 // What a case asks.
@@ -92,21 +73,16 @@ enum Case {
     Decode,
 }
 
-fn answer_case(
-    heap: Global,
-    line: &[u8],
-    list: &mut Vec<u32>,
-) -> Result<Option<String>, AllocError> {
-    let Some(case) = read_name(
+fn answer_case(heap: Global, line: &[u8], list: &mut Vec<u32>) -> Result<String, Unread> {
+    let case = read_name(
         line,
         &[
             (b"tokens ", Case::Tokens),
             (b"code ", Case::Code),
             (b"decode ", Case::Decode),
         ],
-    ) else {
-        return Ok(None);
-    };
+    )
+    .ok_or(Unread::IllFormed)?;
     match case.value {
         Case::Tokens => answer_tokens(heap, case.rest),
         Case::Code => answer_code(heap, case.rest, list),
@@ -115,8 +91,9 @@ fn answer_case(
 }
 
 pub(crate) fn answer(heap: Global, line: &[u8], list: &mut Vec<u32>) -> Result<String, AllocError> {
-    match answer_case(heap, line, list)? {
-        Some(answer) => Ok(answer),
-        None => String::from_str(heap, "no case"),
+    match answer_case(heap, line, list) {
+        Ok(answer) => Ok(answer),
+        Err(Unread::IllFormed) => String::from_str(heap, "no case"),
+        Err(Unread::NoMemory(error)) => Err(error),
     }
 }

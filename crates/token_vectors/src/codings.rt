@@ -4,7 +4,7 @@ use coding::placed::PlacedToken;
 use languages::language::Language;
 use languages::token::Token;
 use languages::walk::Tokens;
-use notation::read_number;
+use notation::{Unread, read_number};
 use std::alloc::{AllocError, Global};
 use text::changes::Text;
 
@@ -20,16 +20,17 @@ pub(crate) fn write_numbers(heap: Global, numbers: &[u32]) -> Result<String, All
     Ok(written)
 }
 
-// Numbers with commas between them, and nothing behind the last; none where that is not so.
-pub(crate) fn read_numbers(heap: Global, from: &[u8]) -> Result<Option<Vec<u32>>, AllocError> {
+// Numbers with commas between them, and nothing behind the last.
+pub(crate) fn read_numbers(heap: Global, from: &[u8]) -> Result<Vec<u32>, Unread> {
     let mut numbers = Vec::new(heap);
     for field in from.split(|byte| *byte == b',') {
-        match read_number(field) {
-            Some(number) if number.rest.is_empty() => numbers.push(number.value)?,
-            _ => return Ok(None),
+        let number = read_number(field).ok_or(Unread::IllFormed)?;
+        if !number.rest.is_empty() {
+            return Err(Unread::IllFormed);
         }
+        numbers.push(number.value).map_err(AllocError::from)?;
     }
-    Ok(Some(numbers))
+    Ok(numbers)
 }
 
 // The tokens of a coded list.

@@ -1,4 +1,4 @@
-// The answer to each case. None where the line is no case.
+// The answer to each case.
 ghost use Rattle.std.specs.Prelude.{◌≡◌, [], ◌++◌, IfOk, if◌then◌else◌, string_bytes, codes, decimal};
 ghost use Rattle.notation.specs.Texts.{written};
 ghost use Rattle.refusals.specs.Numbers.{number_of};
@@ -6,29 +6,25 @@ ghost use Rattle.vectors.specs.Fields.{settled_text};
 
 use crate::fields::{Both, Order, Spot, last_texts, order_fields, spot_fields};
 use chosen::texts::{change, cut, resolve};
-use notation::{Encoding, read_last_text, read_name, write_text};
+use notation::{Encoding, Unread, read_last_text, read_name, write_text};
 use refusals::Refusal;
 use std::alloc::{AllocError, Global};
 use text::lines::{line_content, line_count, line_start};
 use text::places::Position;
 use utf8::well_formed;
 
-fn answer_utf8(heap: Global, fields: &[u8]) -> Result<Option<String>, AllocError> {
-    let Some(text) = read_last_text(heap, fields)? else {
-        return Ok(None);
-    };
+fn answer_utf8(heap: Global, fields: &[u8]) -> Result<String, Unread> {
+    let text = read_last_text(heap, fields)?.ok_or(Unread::IllFormed)?;
     let word = if well_formed(text.as_slice()) {
         "well-formed"
     } else {
         "ill-formed"
     };
-    Ok(Some(String::from_str(heap, word)?))
+    Ok(String::from_str(heap, word)?)
 }
 
-fn answer_lines(heap: Global, fields: &[u8]) -> Result<Option<String>, AllocError> {
-    let Some(bytes) = read_last_text(heap, fields)? else {
-        return Ok(None);
-    };
+fn answer_lines(heap: Global, fields: &[u8]) -> Result<String, Unread> {
+    let bytes = read_last_text(heap, fields)?.ok_or(Unread::IllFormed)?;
     let text = bytes.as_slice();
     let count = line_count(text);
     let mut answer = format!(in heap; "{count}")?;
@@ -41,7 +37,7 @@ fn answer_lines(heap: Global, fields: &[u8]) -> Result<Option<String>, AllocErro
         let length = content.len();
         write!(answer, " {place}+{length}")?;
     }
-    Ok(Some(answer))
+    Ok(answer)
 }
 
 // The answer of a call: 0 and the value, or the refusal's number.
@@ -59,27 +55,23 @@ fn answer_at<F: FnOnce(Encoding, &[u8], Position) -> Result<usize, Refusal>>(
     heap: Global,
     fields: &[u8],
     call: F,
-) -> Result<Option<String>, AllocError>
+) -> Result<String, Unread>
     requires { F.IsAlwaysCallable call }
 {
-    let Some(spot) = spot_fields(fields) else {
-        return Ok(None);
-    };
-    let Some(text) = read_last_text(heap, spot.rest)? else {
-        return Ok(None);
-    };
+    let spot = spot_fields(fields).ok_or(Unread::IllFormed)?;
+    let text = read_last_text(heap, spot.rest)?.ok_or(Unread::IllFormed)?;
     let Spot { encoding, position } = spot.value;
     let outcome = call(encoding, text.as_slice(), position);
-    Ok(Some(settled(heap, outcome)?))
+    Ok(settled(heap, outcome)?)
 }
 
-fn answer_place(heap: Global, fields: &[u8]) -> Result<Option<String>, AllocError> {
+fn answer_place(heap: Global, fields: &[u8]) -> Result<String, Unread> {
     answer_at(heap, fields, |encoding, text, position| {
         resolve(encoding, text, position).map(|place| place.0)
     })
 }
 
-fn answer_cut(heap: Global, fields: &[u8]) -> Result<Option<String>, AllocError> {
+fn answer_cut(heap: Global, fields: &[u8]) -> Result<String, Unread> {
     answer_at(heap, fields, |encoding, text, position| {
         cut(encoding, text, position).map(|column| column.0 as usize)
     })
@@ -110,21 +102,17 @@ fn try_change(heap: Global, order: Order, texts: Both) -> Result<String, AllocEr
     let mut before = old;
     before.resize(size.max(order.lent), 0)?;
     let mut memory = before.clone()?;
-    let lent = &mut memory[0..order.lent];
+    let lent = &mut memory[..order.lent];
     match change(order.encoding, lent, size, order.range, new.as_slice()) {
-        Ok(size) => taken(heap, &memory[0..size]),
+        Ok(size) => taken(heap, &memory[..size]),
         Err(refusal) => refused(heap, refusal, memory == before),
     }
 }
 
-fn answer_change(heap: Global, fields: &[u8]) -> Result<Option<String>, AllocError> {
-    let Some(order) = order_fields(fields) else {
-        return Ok(None);
-    };
-    let Some(texts) = last_texts(heap, order.rest)? else {
-        return Ok(None);
-    };
-    Ok(Some(try_change(heap, order.value, texts)?))
+fn answer_change(heap: Global, fields: &[u8]) -> Result<String, Unread> {
+    let order = order_fields(fields).ok_or(Unread::IllFormed)?;
+    let texts = last_texts(heap, order.rest)?;
+    Ok(try_change(heap, order.value, texts)?)
 }
 
 // What a case asks.
@@ -137,8 +125,8 @@ enum Case {
     Change,
 }
 
-fn answer_case(heap: Global, line: &[u8]) -> Result<Option<String>, AllocError> {
-    let Some(case) = read_name(
+fn answer_case(heap: Global, line: &[u8]) -> Result<String, Unread> {
+    let case = read_name(
         line,
         &[
             (b"utf8 ", Case::Utf8),
@@ -147,9 +135,8 @@ fn answer_case(heap: Global, line: &[u8]) -> Result<Option<String>, AllocError> 
             (b"cut ", Case::Cut),
             (b"change ", Case::Change),
         ],
-    ) else {
-        return Ok(None);
-    };
+    )
+    .ok_or(Unread::IllFormed)?;
     match case.value {
         Case::Utf8 => answer_utf8(heap, case.rest),
         Case::Lines => answer_lines(heap, case.rest),
@@ -160,8 +147,9 @@ fn answer_case(heap: Global, line: &[u8]) -> Result<Option<String>, AllocError> 
 }
 
 pub(crate) fn answer(heap: Global, line: &[u8]) -> Result<String, AllocError> {
-    match answer_case(heap, line)? {
-        Some(answer) => Ok(answer),
-        None => String::from_str(heap, "no case"),
+    match answer_case(heap, line) {
+        Ok(answer) => Ok(answer),
+        Err(Unread::IllFormed) => String::from_str(heap, "no case"),
+        Err(Unread::NoMemory(error)) => Err(error),
     }
 }

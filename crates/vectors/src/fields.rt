@@ -1,9 +1,9 @@
 // The fields of a case.
 use chosen::fields::position_field;
 use notation::{
-    Encoding, Parsed, read_encoding, read_last_text, read_mark, read_number, read_text,
+    Encoding, Parsed, Unread, read_encoding, read_last_text, read_mark, read_number, read_text,
 };
-use std::alloc::{AllocError, Global};
+use std::alloc::Global;
 use text::places::{Position, Range};
 
 // A position in an encoding.
@@ -61,18 +61,12 @@ pub(crate) fn order_fields(from: &[u8]) -> Option<Parsed<'_, Order>> {
 }
 
 // Two texts that are the last fields.
-pub(crate) fn last_texts(heap: Global, from: &[u8]) -> Result<Option<Both>, AllocError> {
-    let Some(old) = read_text(heap, from)? else {
-        return Ok(None);
-    };
-    let Some(rest) = read_mark(old.rest, b' ') else {
-        return Ok(None);
-    };
-    let Some(new) = read_last_text(heap, rest)? else {
-        return Ok(None);
-    };
-    Ok(Some(Both {
+pub(crate) fn last_texts(heap: Global, from: &[u8]) -> Result<Both, Unread> {
+    let old = read_text(heap, from)?.ok_or(Unread::IllFormed)?;
+    let rest = read_mark(old.rest, b' ').ok_or(Unread::IllFormed)?;
+    let new = read_last_text(heap, rest)?.ok_or(Unread::IllFormed)?;
+    Ok(Both {
         old: old.value,
         new,
-    }))
+    })
 }

@@ -53,11 +53,8 @@ pub fn field(body: &[u8], at: usize, kind: u32, low: u32, high: u32) -> Option<u
 {
     let word = word_at(body, at)?;
     let value = word % 0x1000_0000;
-    if word / 0x1000_0000 == kind && low <= value && value <= high {
-        Some(value)
-    } else {
-        None
-    }
+    let fits = word / 0x1000_0000 == kind && low <= value && value <= high;
+    fits.then_some(value)
 }
 
 // Writes the bytes at a place, and answers the place behind them.
