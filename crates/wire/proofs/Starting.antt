@@ -18,7 +18,7 @@ module _ (bs : List ℕ) where
   no_header e = by (headed bs (announced bs)) refl e
     where
       by : (v : Bool) → headed bs (announced bs) ≡ v → None ≡ cond v (Some (length (heading (announced bs)))) None → refused 4 tt ≡ header_rule bs
-      by true h e = let z : ◌≡◌ {A = ℕ} 0 1 = cc in absurd (omega arith)
+      by true h e = absurd (cc)
       by false h e = rw h
 
   module _ (start : ℕ) (e : Some start ≡ cond (headed bs (announced bs)) (Some (length (heading (announced bs)))) None) where
@@ -27,7 +27,7 @@ module _ (bs : List ℕ) where
       where
         by : (v : Bool) → headed bs (announced bs) ≡ v → Some start ≡ cond v (Some (length (heading (announced bs)))) None → (headed bs (announced bs) ≡ true) × (start ≡ length (heading (announced bs)))
         by true h e = (h, cc)
-        by false h e = let z : ◌≡◌ {A = ℕ} 0 1 = cc in absurd (omega arith)
+        by false h e = absurd (cc)
 
     pub small : announced bs ≤ body_limit
     small = leb-true _ _ (and_parts _ _ found.0).0
