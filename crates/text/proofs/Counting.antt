@@ -1,9 +1,9 @@
 -- One byte on, for the loops over lines: each says the same of what is left as of the whole. Assumes nothing.
-use Rattle.std.proofs.Common.{◌≡◌, ℕ, zero, suc, ◌+◌, ◌-◌, ◌<◌, ◌≤◌, Bool, true, false, cond, not, eqb, ltb, List, [], ◌∷◌, length, get_or, take, drop, Some, None, Option, sym, refl, ap, ◌∙◌, arith, length-take}
+use Rattle.std.proofs.Common.{◌≡◌, ℕ, zero, suc, ◌+◌, ◌-◌, ◌<◌, ◌≤◌, Bool, true, false, cond, not, ◌&&◌, ◌||◌, eqb, ltb, List, [], ◌∷◌, length, get_or, take, drop, Some, None, Option, sym, refl, ap, ◌∙◌, arith, length-take}
 use Rattle.std.specs.List.{position, position_or_len}
 use Rattle.std.specs.Option.{unwrap_or}
 use Rattle.std.proofs.lemmas.List.{at_drop_more, at_drop_all}
-use Rattle.std.proofs.lemmas.Bool.{cond_both, ltb-false, ne_eqb}
+use Rattle.std.proofs.lemmas.Bool.{cond-true, cond-false, cond_both, ltb-false, ne_eqb}
 use Rattle.std.specs.Bool.{then_some}
 use Rattle.text.specs.Lines.{place_in, is_end, ends, ends_at, later, ahead, start_of, line_count, content}
 
@@ -11,8 +11,30 @@ pub ahead_later : (n : ℕ) (o : Option ℕ) → ahead n (later o) ≡ ahead (n 
 ahead_later n None = refl
 ahead_later n (Some m) = let e : n + suc m ≡ n + 1 + m = omega arith in ap Some e
 
+pub ahead_none : (o : Option ℕ) → ahead 0 o ≡ o
+ahead_none None = refl
+ahead_none (Some m) = let e : 0 + m ≡ m = omega arith in ap Some e
+
+pub ahead_here : (n : ℕ) → ahead n (Some 0) ≡ Some n
+ahead_here n = let e : n + 0 ≡ n = omega arith in ap Some e
+
+and_true : (b : Bool) → (b && true) ≡ b
+and_true true = refl
+and_true false = refl
+
+-- the byte behind decides; past the end stands no LF
+ends_at_lem : (b : ℕ) (t : List ℕ) (n : ℕ) → ends b (drop n t) ≡ (eqb b 10 || (eqb b 13 && not (eqb (get_or t n 0) 10)))
+ends_at_lem b [] zero = ap (λ x. eqb b 10 || x) (sym (and_true (eqb b 13)))
+ends_at_lem b [] (suc n) = ap (λ x. eqb b 10 || x) (sym (and_true (eqb b 13)))
+ends_at_lem b (c ∷ t) zero = refl
+ends_at_lem b (c ∷ t) (suc n) = ends_at_lem b t n
+
 pub ends_here : (t : List ℕ) (n : ℕ) → n < length t → ends_at (drop n t) ≡ ends (get_or t n 0) (drop (n + 1) t)
 ends_here t n l = at_drop_more ends_at t n 0 l
+
+-- the same by the two bytes
+pub ends_by : (t : List ℕ) (n : ℕ) → n < length t → ends_at (drop n t) ≡ (eqb (get_or t n 0) 10 || (eqb (get_or t n 0) 13 && not (eqb (get_or t (n + 1) 0) 10)))
+ends_by t n l = ends_here t n l ∙ ends_at_lem (get_or t n 0) t (n + 1)
 
 start_step : (b : ℕ) (t : List ℕ) (n : ℕ) → 0 < n → start_of (b ∷ t) n ≡ later (start_of t (cond (ends b t) (n - 1) n))
 start_step b t zero l = absurd (omega arith)
@@ -39,6 +61,15 @@ module _ (t : List ℕ) (at : ℕ) where
 
   pub count_all : length t ≤ at → line_count (drop at t) ≡ 1
   count_all l = at_drop_all line_count t at l
+
+  pub content_on : at < length t → is_end (get_or t at 0) ≡ false → length (content (drop at t)) ≡ suc (length (content (drop (at + 1) t)))
+  content_on l e = ap length (at_drop_more content t at 0 l ∙ cond-false _ _ _ e)
+
+  pub content_stop : at < length t → is_end (get_or t at 0) ≡ true → length (content (drop at t)) ≡ 0
+  content_stop l e = ap length (at_drop_more content t at 0 l ∙ cond-true _ _ _ e)
+
+  pub content_all : length t ≤ at → length (content (drop at t)) ≡ 0
+  content_all l = ap length (at_drop_all content t at l)
 
 -- at the end of the text only the line starts that is next
 pub line_end : (t : List ℕ) (at left : ℕ) → at ≡ length t → place_in (then_some (eqb left 0) (record { 0 = length t })) ≡ ahead at (start_of (drop at t) left)

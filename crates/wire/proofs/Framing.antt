@@ -1,7 +1,7 @@
 -- Reading a frame, and the frame of a body. Assumes nothing.
-use Rattle.std.proofs.Common.{◌≡◌, ℕ, ◌+◌, ◌≤◌, true, false, eqb, List, ◌++◌, length, take, drop, Some, None, Option, refl, ap, ◌∙◌, arith, length-append, length-drop, take-append-drop}
+use Rattle.std.proofs.Common.{◌≡◌, ℕ, ◌+◌, ◌-◌, ◌≤◌, true, false, eqb, List, ◌++◌, length, take, drop, Some, None, Option, refl, ap, ◌∙◌, arith, length-append, length-drop, take-append-drop}
 use Rattle.std.specs.List.{AllByRecursion}
-use Rattle.std.proofs.lemmas.List.{drop_at}
+use Rattle.std.proofs.lemmas.List.{take_rest, drop_at}
 use Rattle.std.proofs.lemmas.Bool.{and_parts, eqb-true, eq-eqb, not-false}
 use Rattle.std.proofs.lemmas.Slice.Eq.{bytes_eq-Decides}
 use Rattle.refusals.specs.Outcomes.{Outcome, refused, taken}
@@ -9,6 +9,11 @@ use Rattle.refusals.proofs.Settles.{settle_taken, settle_passes}
 use Rattle.wire.specs.Headers.{body_limit, heading, announced, headed, header_checks, header_rule}
 use Rattle.wire.specs.Frames.{frame_of, told, behind, read_frame}
 use Rattle.wire.proofs.Announcing.{headers_announce}
+
+module _ {S : Type 0} (reads : List ℕ → Option S) (bs : List ℕ) where
+  -- behind a good header, the message of the bytes there
+  pub read_behind : (start : ℕ) (o : Option S) → taken start ≡ header_rule bs → o ≡ reads (take (length bs - start) (drop start bs)) → told o ≡ read_frame reads bs
+  read_behind start o e h = ap told (h ∙ ap reads (take_rest bs start)) ∙ ap (behind reads bs) e
 
 -- the frame of a body has a good header
 framed : (body : List ℕ) → length body ≤ body_limit → header_rule (frame_of body) ≡ taken (length (heading (length body)))

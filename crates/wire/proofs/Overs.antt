@@ -1,7 +1,10 @@
 -- Bytes written over a list, one part behind another. Assumes nothing.
-use Rattle.std.proofs.Common.{◌≡◌, ℕ, ◌+◌, ◌≤◌, List, ◌++◌, length, take, drop, sym, ap, ◌∙◌, arith, length-append, length-drop}
+use Rattle.std.proofs.Common.{◌≡◌, ℕ, ◌+◌, ◌≤◌, List, [], ◌++◌, length, take, drop, sym, ap, ◌∙◌, arith, length-append, length-drop, take-append-drop}
 use Rattle.std.proofs.lemmas.List.{append_assoc, take_at, drop_at, length-take-le, drop-drop}
 use Rattle.wire.specs.Words.{over}
+
+pub over_none : (out : List ℕ) (i : ℕ) → over out i [] ≡ out
+over_none out i = ap (λ (n : ℕ). take i out ++ drop n out) (let e : i + 0 ≡ i = omega arith in e) ∙ take-append-drop i out
 
 -- a part, and another right behind it, are both in a row
 pub over_over : (out a b : List ℕ) (i j : ℕ) → i ≤ length out → j ≡ i + length a → over (over out i a) j b ≡ over out i (a ++ b)
