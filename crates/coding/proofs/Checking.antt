@@ -4,7 +4,7 @@ use Rattle.std.proofs.lemmas.List.{take-append-le, drop_at}
 use Rattle.std.proofs.lemmas.Bool.{cond-true, cond-false, lt-ltb, le-ltb}
 use Rattle.refusals.specs.Outcomes.{refused, taken, settle}
 use Rattle.refusals.proofs.Settles.{settle_on, settle_stop}
-use Rattle.text.specs.Positions.{text_checks, text_rule}
+use Rattle.text.specs.Positions.{text_checks}
 use Rattle.languages.specs.Tokens.{Next, tokens}
 use Rattle.coding.specs.Coding.{fresh, token_limit, list_limit, Coded, code_rule, leaves}
 
@@ -15,16 +15,20 @@ module _ (u : ℕ → ℕ) (next : Next) (t list : List ℕ) where
   abbrev last : List (ℕ × Bool)
   last = (18, ltb token_limit (length (tokens next t))) ∷ []
 
+  pub short_list : length list < list_limit → refused 1 list ≡ code_rule u next t list
+  short_list h = sym (cond-true _ _ _ (lt-ltb _ _ h))
+
   module _ (room : list_limit ≤ length list) where
     text_next : settle (text_checks t ++ last) list done ≡ code_rule u next t list
     text_next = sym (cond-false _ _ _ (le-ltb _ _ room))
 
-    pub bad_text : (k : ℕ) → refused k tt ≡ text_rule t → refused k list ≡ code_rule u next t list
-    bad_text k e = sym (settle_stop (tt {0}) t list done last (text_checks t) k tt (sym e)) ∙ text_next
+    -- s is what is stated of a text that is taken: nothing (`check_rule`), or the text (`text_rule`)
+    pub bad_text : {S : Type 0} (s : S) (k : ℕ) → refused k (tt {0}) ≡ settle (text_checks t) tt s → refused k list ≡ code_rule u next t list
+    bad_text s k e = sym (settle_stop (tt {0}) s list done last (text_checks t) k tt (sym e)) ∙ text_next
 
-    module _ (x : List ℕ) (good : taken x ≡ text_rule t) where
+    module _ {S : Type 0} (s x : S) (good : taken x ≡ settle (text_checks t) (tt {0}) s) where
       count_next : settle last list done ≡ code_rule u next t list
-      count_next = sym (settle_on (tt {0}) t list done last (text_checks t) x (sym good)) ∙ text_next
+      count_next = sym (settle_on (tt {0}) s list done last (text_checks t) x (sym good)) ∙ text_next
 
       pub too_many : token_limit < length (tokens next t) → refused 18 list ≡ code_rule u next t list
       too_many h = sym (cond-true _ _ _ (lt-ltb _ _ h)) ∙ count_next

@@ -30,14 +30,16 @@ pub fresh_length : (u : ℕ → ℕ) (next : Next) (t : List ℕ) → length (fr
 unfolding fresh
 fresh_length u next t = code_length 0 0 (map (placed u t) (tokens next t)) ∙ ap (λ (n : ℕ). 5 * n) (length-map (tokens next t) (placed u t))
 
--- a token's units lie between the columns of its ends
-pub units_between : (u : ℕ → ℕ) (t : List ℕ) (from kinds : ℕ) (k : Token) → Fits t from kinds k
-    → column_of u t (end k) 0 ≡ column_of u t k.place.0 0 + units_of u (drop k.place.0 t) k.length
-units_between u t from kinds k f =
-    let p = k.place.0 in
-    sym (column_split u t p k.length 0) ∙
-    column_flat u (drop p t) k.length (column_of u t p 0) (omega (arith, length-drop p t, f.inside))
-    (λ i l. ap is_end (get_or-drop p t i 0) ∙ f.one_line (p + i) (omega arith) (omega arith))
+-- the columns at both ends of a token, and its units
+module _ (u : ℕ → ℕ) (t : List ℕ) (from kinds : ℕ) (k : Token) (f : Fits t from kinds k) where
+  pub units_are : (c : ℕ) → column_of u (drop k.place.0 t) k.length c ≡ c + units_of u (drop k.place.0 t) k.length
+  units_are c =
+      let p = k.place.0 in
+      column_flat u (drop p t) k.length c (omega (arith, length-drop p t, f.inside))
+      (λ i l. ap is_end (get_or-drop p t i 0) ∙ f.one_line (p + i) (omega arith) (omega arith))
+
+  pub units_between : column_of u t (end k) 0 ≡ column_of u t k.place.0 0 + units_of u (drop k.place.0 t) k.length
+  units_between = let p = k.place.0 in sym (column_split u t p k.length 0) ∙ units_are (column_of u t p 0)
 
 -- the first of the tokens that are left fits, and the others are those from its end on
 pub next_left : {next : Next} {kinds : ℕ} → LanguageLaws next kinds → (t : List ℕ) → IsText t → (from : ℕ) (k : Token) (left others : List Token)

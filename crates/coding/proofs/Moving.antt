@@ -68,6 +68,22 @@ module _ (t : List ℕ) (at : ℕ) (l : at < length t) where
   pub column_more : (u : ℕ → ℕ) → column_of u t (at + 1) 0 ≡ cond (ends_at (drop at t)) 0 (column_of u t at 0 + wide u (drop at t))
   column_more u = sym (column_split u t at 1 0) ∙ ap (λ s. column_of u s 1 (column_of u t at 0)) here ∙ sym (ap (λ s. cond (ends_at s) 0 (column_of u t at 0 + wide u s)) here)
 
+-- the same on the way from any place, and from any column there
+module _ (t : List ℕ) (at to : ℕ) (l : at < to) (h : to ≤ length t) where
+  left : to - at ≡ suc (to - (at + 1))
+  left = omega arith
+
+  one : drop at t ≡ get_or t at 0 ∷ drop (at + 1) t
+  one = here t at (omega arith)
+
+  pub line_onward : line_of (drop at t) (to - at) ≡ cond (ends_at (drop at t)) 1 0 + line_of (drop (at + 1) t) (to - (at + 1))
+  line_onward = ap (line_of (drop at t)) left ∙ ap (λ s. line_of s (suc (to - (at + 1)))) one ∙ ap (λ b. cond b 1 0 + line_of (drop (at + 1) t) (to - (at + 1))) (sym (ap ends_at one))
+
+  pub column_onward : (u : ℕ → ℕ) (c : ℕ) → column_of u (drop at t) (to - at) c ≡ column_of u (drop (at + 1) t) (to - (at + 1)) (cond (ends_at (drop at t)) 0 (c + wide u (drop at t)))
+  column_onward u c =
+      ap (λ (n : ℕ). column_of u (drop at t) n c) left ∙ ap (λ s. column_of u s (suc (to - (at + 1))) c) one
+      ∙ sym (λ i. column_of u (drop (at + 1) t) (to - (at + 1)) (cond (ends_at (one i)) 0 (c + wide u (one i))))
+
 no_end : (b : ℕ) (t : List ℕ) → is_end b ≡ false → ends b t ≡ false
 no_end b [] e = e
 no_end b (c ∷ t) e = grind (arith, nat_tests, e)

@@ -1,5 +1,5 @@
 -- What the readers take from the front of a list. Assumes nothing.
-use Rattle.std.proofs.Common.{◌≡◌, ℕ, suc, ◌+◌, ◌-◌, ◌<◌, true, false, not, cond, List, [], ◌∷◌, length, take, drop, Some, None, Ok, Err, Result, sym, refl, ap, subst, ◌∙◌, arith, rules}
+use Rattle.std.proofs.Common.{◌≡◌, ℕ, suc, ◌+◌, ◌-◌, ◌*◌, ◌<◌, ◌≤◌, true, false, not, cond, List, [], ◌∷◌, length, take, drop, Some, None, Ok, Err, Result, sym, refl, ap, subst, ◌∙◌, arith, rules}
 use Rattle.std.specs.Char.{is_ascii_digit}
 use Rattle.std.specs.List.{prefix_len, position, position_or_len, take_while, before_first, after_first}
 use Rattle.std.specs.Option.{option_map}
@@ -82,3 +82,8 @@ pub lines_next : (bs : List ℕ) (line rest : List ℕ) → 0 < length bs → (l
 unfolding line_of
 lines_next [] line rest h e = absurd (omega arith)
 lines_next (b ∷ bs) line rest h e = lines_first b bs ∙ ap (λ p. p.0 ∷ lines_of p.1) (sym e)
+
+-- no digit makes the number smaller
+pub worth_grows : (n : ℕ) (ds : List ℕ) → n ≤ worth n ds
+worth_grows n [] = omega arith
+worth_grows n (d ∷ ds) = let h = worth_grows (n * 10 + (d - 48)) ds in omega arith

@@ -1,14 +1,31 @@
 -- Readings by what the first byte opens. Assumes nothing.
-use Rattle.std.proofs.Common.{◌≡◌, ℕ, ◌+◌, ◌-◌, ◌<◌, Bool, true, List, [], ◌∷◌, Some, None, Option, refl, subst, arith}
+use Rattle.std.proofs.Common.{◌≡◌, ℕ, ◌+◌, ◌-◌, ◌<◌, Bool, true, false, cond, eqb, List, [], ◌∷◌, length, get_or, Some, None, Option, sym, refl, ap, ◌∙◌, subst, arith}
 use Rattle.std.specs.List.{prefix_len}
 use Rattle.std.specs.Option.{option_and_then}
 use Rattle.std.proofs.lemmas.List.Sums.{prefix_len-le-length, prefix_len_passes}
-use Rattle.std.proofs.lemmas.Bool.{cond-true}
+use Rattle.std.proofs.lemmas.Bool.{cond-true, eqb-true}
+use Rattle.text.specs.Lines.{is_end, content}
 use Rattle.languages.specs.declared.token.TokenType.{TokenType}
 use Rattle.languages.specs.Types.{type_number}
 use Rattle.scanner.specs.declared.piece.Piece.{Piece}
 use Rattle.scanner.specs.Pieces.{plain}
 use Rattle.scanner.specs.Scan.{Reading, by_first, Starts, Sound}
+
+pub none_left : {C : Type 0} (opens : ℕ → Option C) (read_as : C → Reading) (clear : Bool) (s : List ℕ) → true ≡ eqb (length s) 0 → None ≡ by_first opens read_as clear (content s)
+none_left opens read_as clear [] h = refl
+none_left opens read_as clear (b ∷ bs) h = absurd (omega (arith, eqb-true (length (b ∷ bs)) 0 (sym h)))
+
+-- what the first byte opens tells what starts there, also at a line end, which starts nothing
+pub by_first_lem : {C : Type 0} (opens : ℕ → Option C) (read_as : C → Reading) → ((b : ℕ) → is_end b ≡ true → (clear : Bool) → option_and_then (λ c. read_as c clear []) (opens b) ≡ None)
+    → (o : Option C) (clear : Bool) (s : List ℕ) → false ≡ eqb (length s) 0 → o ≡ opens (get_or s 0 0)
+    → option_and_then (λ c. read_as c clear (content s)) o ≡ by_first opens read_as clear (content s)
+by_first_lem opens read_as nothing o clear [] h e = absurd (cc)
+by_first_lem {C} opens read_as nothing o clear (b ∷ bs) h e =
+    let on : List ℕ → Option C → Option Piece = λ line. option_and_then (λ c. read_as c clear line) in
+    ap (on (content (b ∷ bs))) e ∙ (elim (is_end b) as (λ v. is_end b ≡ v → on (cond v [] (b ∷ content bs)) (opens b) ≡ by_first opens read_as clear (cond v [] (b ∷ content bs))) [
+      | true ↦ λ l. nothing b l clear
+      | false ↦ λ _. refl
+    ]) refl
 
 -- such a reading is sound if each piece that is opened is
 pub by_first_sound : {C : Type 0} (opens : ℕ → Option C) (read_as : C → Reading) (kinds : ℕ)

@@ -22,7 +22,7 @@ returns-in_err-text g c =
     let u = g.E.PositionEncoding.units c.args.encoding.now in
     let next = g.L.Language.next c.args.language.now in
     let p = err_from_is_err_and c.from_residual.result c.from_residual.ensures.1 in
-    with_laws (rw (p.1, p.2) (bad_text u next c.args.text.now c.args.list.now c.if-list-lt-LIST_LIMIT.false _ c.in_err-text.ensures))
+    with_laws (rw (p.1, p.2) (bad_text u next c.args.text.now c.args.list.now c.if-list-lt-LIST_LIMIT.false c.args.text.now _ c.in_err-text.ensures))
 
 pub returns-then-count-gt-TOKEN_LIMIT : goal.returns-then-count-gt-TOKEN_LIMIT
 returns-then-count-gt-TOKEN_LIMIT g c =
@@ -30,7 +30,7 @@ returns-then-count-gt-TOKEN_LIMIT g c =
     let next = g.L.Language.next c.args.language.now in
     let t = c.args.text.now in
     let same = ap (λ x. length (tokens next x)) (text_is t _ c.in_ok-text.ensures) in
-    with_laws (too_many u next t c.args.list.now c.if-list-lt-LIST_LIMIT.false _ c.in_ok-text.ensures (omega (arith, same)))
+    with_laws (too_many u next t c.args.list.now c.if-list-lt-LIST_LIMIT.false t _ c.in_ok-text.ensures (omega (arith, same)))
 
 pub returns : goal.returns
 returns g c =
@@ -45,4 +45,4 @@ returns g c =
     let count = ap (λ x. length (tokens next x)) same in
     let few : length (tokens next t) ≤ 512 = omega arith in
     let numbers = c.gather.ensures.numbers ∙ ap (fresh u next) same in
-    with_laws (coded u next t list room _ c.in_ok-text.ensures few c.gather.result c.gather.new.list long (omega (arith, few, fresh_length u next t, size)) size numbers)
+    with_laws (coded u next t list room t _ c.in_ok-text.ensures few c.gather.result c.gather.new.list long (omega (arith, few, fresh_length u next t, size)) size numbers)
