@@ -59,6 +59,7 @@ impl<'a> Iterator for Decoded<'a> {
 
     #[tactic(auto, using(crate::proofs::Fives::decode_five))]
     fn next(&mut self) -> Option<PlacedToken> {
+        // a pattern: `split_first_chunk` leaves two goals that it does not
         let [lines, columns, units, kind, modifiers, rest @ ..] = self.rest else {
             return None;
         };

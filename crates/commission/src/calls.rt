@@ -110,6 +110,7 @@ impl Session {
         ensures { outcome (λ _. view self.new) result (view self.new) ≡ type_rule (view self.old) range inserted.now }
     {
         let size = check_ready(&self.memory[..self.lent], self.size, inserted)?;
+        // `0..`: with `..` alone what the session keeps was tried and not proved
         let lent = &mut self.memory[0..self.lent];
         self.size = Some(change(self.encoding, lent, size, range, inserted)?);
         Ok(())

@@ -78,7 +78,7 @@ fn print_colours(rt: &HostRuntime, session: &Session, number: u64) -> io::Result
     }
 }
 
-// Carries out one line of the script.
+// Carries out one line of the script. The session and the count change, the others are lent: no two always go together.
 fn carry_out(
     rt: &HostRuntime,
     session: &mut Session,

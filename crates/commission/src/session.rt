@@ -9,7 +9,7 @@ use notation::Encoding;
 pub struct Session {
     pub encoding: Encoding,
     pub tongue: Tongue,
-    // A call was made, so the encoding and the language stay.
+    // A call was made, so the encoding and the language stay. A flag alone: no value stands beside it.
     pub called: bool,
     // The first bytes hold the text, where there is one: the library changes a text in memory that it is lent, with the
     // length beside.

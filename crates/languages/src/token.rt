@@ -30,6 +30,7 @@ impl TokenType {
     pub fn number(self) -> u32
         ensures { result ≡ type_number self }
     {
+        // the numbers stand at the cases
         self as u32
     }
 }

@@ -6,7 +6,8 @@ ghost use Rattle.std.specs.Prelude.{◌≡◌, ◌+◌, ◌<◌, ◌≤◌, min,
 pub struct Full;
 
 // The list is the first `used` entries of the slice, which is lent: a `Vec` would own its memory. The clauses on names
-// say that it stays the lender's slice, so that the lender knows what it holds afterwards.
+// say that it stays the lender's slice, so that the lender knows what it holds afterwards; so do those on the fields: what
+// the lender gets back is the whole slice, not the entries alone.
 #[derive(Drop)]
 pub struct Growing<'a, T> {
     slots: &'a mut [T],

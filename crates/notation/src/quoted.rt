@@ -15,7 +15,7 @@ fn hex_value(digit: u8) -> Option<u8>
     char::from(digit).to_digit(16).map(|value| value as u8)
 }
 
-// The byte that a letter behind a backslash stands for.
+// The byte that a letter behind a backslash stands for: the table of the notation.
 fn escaped(letter: u8) -> Option<u8>
     ensures { result ≡ named letter }
 {
@@ -57,6 +57,7 @@ pub fn read_text(heap: Global, from: &[u8]) -> Result<Option<Parsed<'_, Vec<u8>>
         return Ok(None);
     };
     let mut bytes = Vec::new(heap);
+    // no `for`: a spelling takes one to four bytes off
     while let Some(spelling) = read_spelling(rest) {
         bytes.push(spelling.value)?;
         rest = spelling.rest;

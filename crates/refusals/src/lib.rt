@@ -1,8 +1,9 @@
 // Why a call is refused, and the number that is sent back for it.
 #![tactic(auto)]
 
-ghost use Rattle.std.specs.Prelude.{◌≡◌};
+ghost use Rattle.std.specs.Prelude.{◌≡◌, Some};
 ghost use Rattle.refusals.specs.Numbers.{number_of};
+ghost use Rattle.refusals.specs.Words.{said};
 
 use std::error::Error;
 use std::fmt;
@@ -54,12 +55,15 @@ impl Refusal {
     pub fn number(self) -> u32
         ensures { result ≡ number_of self }
     {
+        // the numbers stand at the cases
         self as u32
     }
 }
 
 // What a refusal says, in a few words.
 impl fmt::Display for Refusal {
+    ghost output = { λ r. Some (said r) };
+
     fn fmt<W: fmt::Write>(&self, f: &mut fmt::Formatter<W>) -> fmt::Result {
         f.write_str(match self {
             Refusal::Memory => "memory is shorter than stated, or a stored text is ill-formed",

@@ -1,6 +1,9 @@
 -- The text that ends a body, and the message of a frame. Assumes nothing.
-use Rattle.std.proofs.Common.{◌≡◌, ℕ, ◌+◌, ◌-◌, ◌≤◌, cond, eqb, List, length, take, drop, Some, None, sym, ap, ◌∙◌, arith, length-drop}
-use Rattle.std.proofs.lemmas.List.{take_rest, drop-drop}
+use Rattle.std.proofs.Common.{◌≡◌, ℕ, ◌+◌, ◌≤◌, Bool, true, false, cond, eqb, List, length, drop, Some, None, sym, refl, ap, ◌∙◌, arith, length-drop}
+use Rattle.std.specs.Bool.{then_some}
+use Rattle.std.specs.Borrow.{Bor}
+use Rattle.std.specs.Option.{option_map}
+use Rattle.std.proofs.lemmas.Bool.Decides.{nat_tests}
 use Rattle.std.proofs.lemmas.Bool.{cond-true, eq-eqb}
 use Rattle.requests.specs.Bodies.{and, value_at, text_at}
 
@@ -9,8 +12,15 @@ text_told bs i n e l =
     let all = Some (drop (i + 4) bs) in
     sym (cond-true (eqb (length bs) (i + 4 + n)) all None (eq-eqb (length bs) (i + 4 + n) l)) ∙ ap (λ o. and o (λ (k : ℕ). cond (eqb (length bs) (i + 4 + k)) all None)) e
 
--- what stands behind the four bytes of its length
-pub text_behind : (bs rest : List ℕ) (i n : ℕ) → Some n ≡ value_at bs i 8 → i ≤ length bs → rest ≡ drop i bs → 4 ≤ length rest → length rest - 4 ≡ n → Some (take (length rest - 4) (drop 4 rest)) ≡ text_at bs i
-text_behind bs rest i n e l same some size =
-    let all : take (length rest - 4) (drop 4 rest) ≡ drop (i + 4) bs = take_rest rest 4 ∙ ap (drop 4) same ∙ drop-drop 4 i bs in
-    ap Some all ∙ text_told bs i n e (omega (arith, length-drop i bs, ap length same))
+-- the bytes behind its length, where they are as many as it says
+pub text_behind : (bs : List ℕ) (text : Bor (List ℕ)) (i n : ℕ) → Some n ≡ value_at bs i 8 → i + 4 ≤ length bs → text.now ≡ drop (i + 4) bs
+    → option_map (λ b. b.now) (then_some (eqb (length text.now) n) text) ≡ text_at bs i
+text_behind bs text i n e l same =
+    let size : eqb (length text.now) n ≡ eqb (length bs) (i + 4 + n) = grind (arith, nat_tests, length-drop (i + 4) bs, ap length same) in
+    ap (λ v. option_map (λ b. b.now) (then_some v text)) size ∙ shown (eqb (length bs) (i + 4 + n)) text
+    ∙ ap (λ (s : List ℕ). cond (eqb (length bs) (i + 4 + n)) (Some s) None) same
+    ∙ ap (λ o. and o (λ (k : ℕ). cond (eqb (length bs) (i + 4 + k)) (Some (drop (i + 4) bs)) None)) e
+  where
+    shown : (v : Bool) (b : Bor (List ℕ)) → option_map (λ b. b.now) (then_some v b) ≡ cond v (Some b.now) None
+    shown true b = refl
+    shown false b = refl

@@ -37,9 +37,7 @@ fn read_text(body: &[u8], at: usize) -> Option<&[u8]>
     ensures { option_map (λ b. b.now) result ≡ text_at body.now at }
 {
     let count = field(body, at, Kind::TextLength.number(), 0, VALUE_LIMIT)?;
-    let [_, _, _, _, text @ ..] = body.get(at..)? else {
-        return None;
-    };
+    let text = body.get(at..)?.get(4..)?;
     (text.len() == count as usize).then_some(text)
 }
 

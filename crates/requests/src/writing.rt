@@ -103,6 +103,7 @@ fn write_ask_delta(frame: &mut [u8], opening: u32, request: u32, held: u32) -> u
     put_frame(frame, &words, &[])
 }
 
+// Two ranges of a line each: all that they share is `contains`.
 fn is_opening(n: u32) -> bool
     ensures { result ≡ openings n }
 {
@@ -160,6 +161,7 @@ fn text_size(message: Request<'_>) -> usize
         Request::Open { text, .. } | Request::Type { text, .. } | Request::Replace { text, .. } => {
             text.len()
         }
+        // the others bring no text
         _ => 0,
     }
 }

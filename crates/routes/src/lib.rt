@@ -18,7 +18,7 @@ use text::places::Place;
 #[derive(Clone, Copy)]
 pub struct Routes;
 
-// What a byte opens.
+// What a byte opens: the classes of this language, each read in a way of its own.
 #[derive(Clone, Copy)]
 enum Opening {
     Comment,
@@ -94,6 +94,7 @@ impl Language for Routes {
 
     ghost lawful = { λ s. routes_laws };
 
+    // the same line in each language: only the crate of a trait may give it to all readers
     fn next_token(&self, text: &[u8], from: Place) -> Option<Token> {
         scan(self, text, from)
     }

@@ -30,6 +30,7 @@ pub(crate) fn is_clear(text: &[u8], place: Place) -> bool
     let Some(before) = text.get(..place.0) else {
         return false;
     };
+    // no `find_map`: tried, and not proved, since it is told by the runs of the iterator
     for b in before.iter().rev() {
         if let Some(clear) = lead_of(*b) {
             return clear;

@@ -17,7 +17,7 @@ use text::places::Place;
 #[derive(Clone, Copy)]
 pub struct Settings;
 
-// What a byte opens.
+// What a byte opens: the classes of this language, each read in a way of its own.
 #[derive(Clone, Copy)]
 enum Opening {
     Word,
@@ -84,6 +84,7 @@ impl Language for Settings {
 
     ghost lawful = { λ s. settings_laws };
 
+    // the same line in each language: only the crate of a trait may give it to all readers
     fn next_token(&self, text: &[u8], from: Place) -> Option<Token> {
         scan(self, text, from)
     }

@@ -74,6 +74,7 @@ pub fn change<E: PositionEncoding>(
     check(inserted)?;
     let span = places(encoding, &memory[..length], range)?;
     lists::splice(
+        // `0..`: with `..` alone the bound of what is lent on was tried and not proved
         &mut memory[0..TEXT_LIMIT],
         length,
         span.start.0,

@@ -35,6 +35,7 @@ pub trait PositionEncoding {
     }
 }
 
+// Each encoding is a type with its numbers and one line of its own: the impls are alike in shape, not in what they say.
 #[derive(Clone, Copy)]
 pub struct Utf8Units;
 

@@ -27,6 +27,7 @@ pub fn line_count(text: &[u8]) -> usize
     ensures count { result ≡ line_count text.now }
     ensures lines { CountedLinesAreThere }
 {
+    // no `filter(..).count()`: tried, and not proved, since it is told by the runs of the filter
     let mut count = 1;
     for at in 0..text.len() {
         if ends_line(text, at) {

@@ -16,6 +16,7 @@ use utf8::scalar_at;
 pub fn units_at<E: PositionEncoding>(encoding: &E, text: &[u8], at: usize) -> u32
     ensures { result ≡ wide (E.units encoding.now) (drop at text.now) }
 {
+    // no `map_or`: tried, and what its closure answers has no name that a proof could use
     match scalar_at(text, at) {
         None => 0,
         Some(c) => encoding.units_of(c),

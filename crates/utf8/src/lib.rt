@@ -26,7 +26,9 @@ fn is_second(first: u8, b: u8) -> bool
     }
 }
 
-// One function a length: they differ in how many bytes they take apart, and a loop over these would hide the ranges.
+// One function a length: they differ in how many bytes they take apart, and a loop over these would hide the ranges. Each
+// takes them by a pattern: `first_chunk` hands over an array, and the facts of the ranges, which are of the bytes, would
+// have to be carried over to it. What all four promise is `First`: it is what each is for.
 fn two(bytes: &[u8]) -> Option<char>
     requires low { 192 ≤ slice_index bytes.now 0 }
     requires high { slice_index bytes.now 0 < 224 }

@@ -17,6 +17,7 @@ use notation::lines;
 use std::io;
 use std::io::Read;
 
+// A loop of this program's own: what an answer takes differs from program to program.
 fn main(rt: HostRuntime) -> io::Result<()> {
     let heap = rt.alloc();
     let mut input = Vec::new(heap);

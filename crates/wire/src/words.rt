@@ -21,6 +21,7 @@ impl Kind {
     pub fn number(self) -> u32
         ensures { result ≡ kind_number self }
     {
+        // the numbers stand at the cases
         self as u32
     }
 
@@ -32,7 +33,7 @@ impl Kind {
     }
 }
 
-// A word: its kind, and its value.
+// A word: its kind, and its value. Numbers, as `put` and `field` take them: a `Kind` would ask more of who calls.
 #[derive(Clone, Copy)]
 pub struct Word(pub u32, pub u32);
 
@@ -40,10 +41,8 @@ pub struct Word(pub u32, pub u32);
 fn word_at(body: &[u8], at: usize) -> Option<u32>
     ensures { result ≡ (if nat_le (at + 4) (length body.now) then Some (word_at body.now at) else None) }
 {
-    match body.get(at..)? {
-        [a, b, c, d, ..] => Some(u32::from_be_bytes([*a, *b, *c, *d])),
-        _ => None,
-    }
+    let bytes = body.get(at..)?.first_chunk::<4>()?;
+    Some(u32::from_be_bytes(*bytes))
 }
 
 // The value of the word at a place, if there is one, it is of that kind, and it lies between `low` and `high`. The kind is
@@ -57,7 +56,9 @@ pub fn field(body: &[u8], at: usize, kind: u32, low: u32, high: u32) -> Option<u
     fits.then_some(value)
 }
 
-// Writes the bytes at a place, and answers the place behind them.
+// Writes the bytes at a place, and answers the place behind them. What writes at a place says the place in its own measure
+// (bytes, four for a word, four for each of the words), so the three facts stand at each: one record would say all by the
+// length of the bytes, which is no plainer.
 pub fn put_bytes(out: &mut [u8], at: usize, bytes: &[u8]) -> usize
     requires { at + length bytes.now ≤ length out.old }
     ensures next { result ≡ at + length bytes.now }
