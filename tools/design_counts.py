@@ -97,7 +97,7 @@ POINTS = [
     ),
     (
         "1d an Option or a Result handed on by hand",
-        lambda: after(r"else \{$", r"return (None;|Err\()")
+        lambda: after(r"else \{$", r"return (None;|Ok\(None\);|Err\()")
         + after(r"else \{$", r"^ +None$")
         + at(r"^ +(None => (None|Err)|Err\(\w+\) => Err|Some\(\w+\) => Ok|Ok\(\w+\) => Ok\(\w+\.)"),
     ),
