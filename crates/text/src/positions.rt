@@ -13,14 +13,11 @@ use refusals::Refusal;
 use utf8::scalar_at;
 
 // The units of the character that begins at the place, 0 where none does.
+#[tactic(auto, unfolding(crate::specs::Columns::wide, crate::specs::Columns::counted))]
 pub fn units_at<E: PositionEncoding>(encoding: &E, text: &[u8], at: usize) -> u32
     ensures { result ≡ wide (E.units encoding.now) (drop at text.now) }
 {
-    // no `map_or`: tried, and what its closure answers has no name that a proof could use
-    match scalar_at(text, at) {
-        None => 0,
-        Some(c) => encoding.units_of(c),
-    }
+    scalar_at(text, at).map_or(0, |c| encoding.units_of(c))
 }
 
 // How many bytes into the line that the bytes begin with its column is, or where the line's content ends if it has fewer
