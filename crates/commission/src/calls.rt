@@ -116,7 +116,7 @@ impl Session {
         Ok(())
     }
 
-    // Makes a call.
+    // Makes a call. A `match`, as wherever what was read chooses a step: each step takes what its case brings.
     pub(crate) fn make(&mut self, call: &Call) -> Result<(), Refusal>
         ensures { outcome (λ _. view self.new) result (view self.new) ≡ call_rule (calling (view self.old)) call.now }
     {

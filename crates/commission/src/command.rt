@@ -122,6 +122,7 @@ fn read_setting(line: &[u8]) -> Option<Command> {
         let choice = Choice::Encoding(encoding.value);
         return encoding.rest.is_empty().then_some(Command::Choose(choice));
     }
+    // the one word with a number behind it
     if let Some(fields) = line.strip_prefix(b"lend ") {
         return read_lend(fields);
     }
@@ -137,6 +138,7 @@ fn read_setting(line: &[u8]) -> Option<Command> {
 
 // The command on a line.
 pub(crate) fn read_command(heap: Global, line: &[u8]) -> Result<Command, Unread> {
+    // no `?`: a line that is no call may be another command
     match read_call(heap, line) {
         Ok(call) => Ok(Command::Call(call)),
         Err(Unread::IllFormed) => read_setting(line).ok_or(Unread::IllFormed),

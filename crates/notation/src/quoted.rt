@@ -8,7 +8,7 @@ use crate::number::read_mark;
 use crate::parsed::Parsed;
 use std::alloc::{AllocError, Global};
 
-// The value of a hexadecimal digit, of either case.
+// The value of a hexadecimal digit, of either case: `to_digit` with its base.
 fn hex_value(digit: u8) -> Option<u8>
     ensures { result ≡ hex_value digit }
 {
@@ -49,7 +49,8 @@ fn read_spelling(from: &[u8]) -> Option<Parsed<'_, u8>>
 }
 
 // The TEXT at the front of `from`. None where there is none: no opening quote, no closing one, a control byte, or a
-// backslash with nothing that it may stand before.
+// backslash with nothing that it may stand before. An `Option` in the `Result`, as the contract states it: not to be
+// read is no failure here, so `?` does not hand it on.
 pub fn read_text(heap: Global, from: &[u8]) -> Result<Option<Parsed<'_, Vec<u8>>>, AllocError>
     ensures { IfOk result (λ t. meant t ≡ text_of from.now) }
 {

@@ -127,6 +127,7 @@ fn read_ask_delta(body: &[u8]) -> Option<Request<'_>>
     })
 }
 
+// A `match` on the number: closures in a table would have to be boxed.
 fn read_body(body: &[u8]) -> Option<Request<'_>>
     ensures { option_map meaning result ≡ reading body.now }
 {

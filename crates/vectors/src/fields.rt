@@ -17,6 +17,7 @@ pub struct Spot {
 #[derive(Clone, Copy)]
 pub struct Order {
     pub encoding: Encoding,
+    // How many bytes the call is lent: its answer turns on that.
     pub lent: usize,
     pub range: Range,
 }

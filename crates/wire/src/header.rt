@@ -16,7 +16,7 @@ pub const BODY_LIMIT: usize = 10_276;
 
 const HEADER_LIMIT: usize = 25;
 
-// Writes `n` in decimal at a place, and answers the place behind it.
+// Writes `n` in decimal at a place, and answers the place behind it. The digits are the kit's; this puts them there.
 fn put_decimal(out: &mut [u8], at: usize, n: usize) -> usize
     requires { at + length (decimal n) ≤ length out.old }
     ensures next { result ≡ at + length (decimal n) }
