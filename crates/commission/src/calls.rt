@@ -79,7 +79,8 @@ impl Session {
         requires { length text.now ≤ 8192 }
         ensures { view self.new ≡ holding text.now (view self.old) }
     {
-        self.memory[..text.len()].copy_from_slice(text);
+        // `0..`, here and below: with `..` alone what the session keeps was tried and not proved
+        self.memory[0..text.len()].copy_from_slice(text);
         self.size = Some(text.len());
     }
 
@@ -110,7 +111,6 @@ impl Session {
         ensures { outcome (λ _. view self.new) result (view self.new) ≡ type_rule (view self.old) range inserted.now }
     {
         let size = check_ready(&self.memory[..self.lent], self.size, inserted)?;
-        // `0..`: with `..` alone what the session keeps was tried and not proved
         let lent = &mut self.memory[0..self.lent];
         self.size = Some(change(self.encoding, lent, size, range, inserted)?);
         Ok(())
