@@ -1,5 +1,7 @@
 // Calls on texts, in an encoding that was named. The three units are types, and a closure that is passed cannot be
-// called at each of them: a match in each call is plainer than a trait with a struct for each call.
+// called at each of them: a match in each call is plainer than a trait with a struct for each call. The calls take
+// what those of `text` take: memory is lent, with the text's length beside it, and an encoding is kept where a text is
+// lent.
 ghost use Rattle.std.specs.Prelude.{◌≡◌, ◌≤◌, length, IfOk};
 ghost use Rattle.refusals.specs.Outcomes.{outcome};
 ghost use Rattle.text.specs.Positions.{resolve_rule, cut_rule, change_rule, leaves};

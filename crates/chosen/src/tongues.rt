@@ -18,7 +18,7 @@ pub enum Tongue {
     Settings,
 }
 
-// The language whose name and a space stand at the front of `from`.
+// The language whose name and a space stand at the front of `from`: a table of its own, as `read_encoding` has one.
 pub fn read_tongue(from: &[u8]) -> Option<Parsed<'_, Tongue>>
     ensures { Speaks from.now result }
 {
@@ -31,7 +31,7 @@ pub fn read_tongue(from: &[u8]) -> Option<Parsed<'_, Tongue>>
     )
 }
 
-// A match over the units, as each call of `texts` has one.
+// A match over the units, as each call of `texts` has one. What is coded is three: a language, an encoding, a text.
 fn code_in<L: Language>(
     language: &L,
     encoding: Encoding,
@@ -55,6 +55,7 @@ pub fn code_text(
 ) -> Result<usize, Refusal>
     ensures { outcome (leaves list.new) result list.new ≡ code_rule (units_of encoding) (next_of tongue) text.now list.old }
 {
+    // the languages are types, as the encodings are
     match tongue {
         Tongue::Routes => code_in(&Routes, encoding, text, list),
         Tongue::Settings => code_in(&Settings, encoding, text, list),

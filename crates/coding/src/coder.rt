@@ -1,4 +1,5 @@
-// The relative coding of a text's tokens.
+// The relative coding of a text's tokens. A language, an encoding and a list are kept by an end, each as long as it
+// likes, and a text is lent for a call: they stay four parameters.
 ghost use Rattle.std.specs.Prelude.{◌≡◌, ◌+◌, ◌-◌, ◌<◌, ◌≤◌, [], ◌∷◌, ◌++◌, length, take, if◌then◌else◌, MatchResult, nat_eq};
 ghost use Rattle.languages.specs.Tokens.{tokens};
 ghost use Rattle.refusals.specs.Outcomes.{outcome};

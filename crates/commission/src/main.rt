@@ -91,6 +91,7 @@ fn carry_out(
         Err(Unread::IllFormed) => return println!(rt; "{number}: no call"),
         Err(Unread::NoMemory(error)) => return Err(io::Error::from(error)),
     };
+    // each step takes what its command brings
     match command {
         Command::Choose(choice) => {
             if !session.choose(choice) {

@@ -52,7 +52,7 @@ fn style_of(kind: u32) -> &'static Style {
     STYLES.get(kind as usize).unwrap_or(&STYLES[6])
 }
 
-// The types of a language.
+// The types of a language: the match is the table.
 fn styles_of(tongue: Tongue) -> &'static [Style] {
     match tongue {
         Tongue::Routes => &STYLES[..6],

@@ -21,6 +21,7 @@ pub trait Language {
 
     ghost lawful: { (s : Self) → LanguageLaws (next s) TYPES };
 
+    // One line, as the accessors of encodings are: what differs is the constant.
     final fn stated_types(&self) -> u32
         ensures { result ≡ TYPES }
     {

@@ -4,8 +4,8 @@ ghost use Rattle.languages.specs.Types.{type_number};
 
 use text::places::Place;
 
-// A part of a text with a type and a sum of modifiers. The length counts bytes. The type is a number below the language's
-// `TYPES` and no `TokenType`, since a language may have types of its own.
+// A part of a text with a type and a sum of modifiers. The length counts bytes: no buffer stands beside it. The type
+// is a number below the language's `TYPES` and no `TokenType`, since a language may have types of its own.
 #[derive(Clone, Copy)]
 pub struct Token {
     pub place: Place,

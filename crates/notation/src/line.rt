@@ -31,7 +31,7 @@ pub fn first_line(from: &[u8]) -> Parsed<'_, &[u8]>
     }
 }
 
-// The lines of a script, one after another.
+// The lines of a script, one after another. Not a `Parsed`: it is what is left alone.
 #[derive(Clone, Copy)]
 pub struct ScriptLines<'a> {
     rest: &'a [u8],

@@ -28,6 +28,7 @@ fn write_open(frame: &mut [u8], opening: u32, text: &[u8]) -> usize
     put_frame(frame, &words, text)
 }
 
+// Its parameters are the fields of the message.
 fn write_type(frame: &mut [u8], opening: u32, version: u32, range: Range, text: &[u8]) -> usize
     requires { Writable frame.old (up_type opening version range text.now) }
     ensures { Writes frame.old frame.new (up_type opening version range text.now) result }
@@ -123,7 +124,7 @@ fn is_position(position: Position) -> bool
     position.line <= VALUE_LIMIT && position.character.0 <= VALUE_LIMIT
 }
 
-// Whether each value of the message is in its range.
+// Whether each value of the message is in its range. A `match`, here and below: each message has fields of its own.
 fn in_range(message: Request<'_>) -> bool
     ensures { result ≡ ranged (meaning message.entry) }
 {

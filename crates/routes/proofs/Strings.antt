@@ -1,5 +1,5 @@
 -- How long a string is, by where its next quote stands. Assumes nothing.
-use Rattle.std.proofs.Common.{◌≡◌, ℕ, ◌+◌, Bool, true, false, cond, not, ◌||◌, List, [], ◌∷◌, slice_index, sym, refl, ap, one-add, arith}
+use Rattle.std.proofs.Common.{◌≡◌, ℕ, ◌+◌, Bool, true, false, cond, not, ◌||◌, List, [], ◌∷◌, slice_index, sym, refl, ap, ◌∙◌, one-add, arith}
 use Rattle.std.specs.List.{prefix_len}
 use Rattle.std.proofs.lemmas.Bool.Decides.{nat_tests}
 use Rattle.text.specs.Lines.{is_end, content}
@@ -22,3 +22,6 @@ through_is (b ∷ bs) =
         | false ↦ λ q. omega (arith, through_is bs, ap (λ (k : ℕ). cond {A = ℕ} (quote (slice_index (b ∷ bs) k)) 1 0) (one-add n))
       ]) refl
     ]) refl
+
+pub closed_at : (s : List ℕ) (n : ℕ) → n ≡ prefix_len (belongs Unquoted) s → (v : Bool) → quote (slice_index s n) ≡ v → through (content s) ≡ n + cond v 1 0
+closed_at s n e v q = through_is s ∙ ap (closed s) (sym e) ∙ ap (λ (w : Bool). n + cond w 1 0) q

@@ -69,6 +69,7 @@ impl Reader for Routes {
     #[tactic(auto, using(scanner::proofs::Classes::all_content, scanner::proofs::Classes::run_content, scanner::proofs::Classes::run_taken))]
     fn piece(&self, _clear: bool, rest: &[u8]) -> Option<Piece> {
         let (first, behind) = rest.split_first()?;
+        // each class is read in a way of its own
         match opened_by(*first)? {
             Opening::Comment => Some(Piece::plain(
                 Run::Content.length_in(rest),

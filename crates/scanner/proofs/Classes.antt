@@ -1,7 +1,7 @@
 -- Runs of a class of bytes: every class lies in its line, and two have ASCII bytes only. Assumes nothing.
-use Rattle.std.proofs.Common.{◌≡◌, ℕ, ◌+◌, ◌<◌, true, false, cond, not, List, [], ◌∷◌, length, take, sym, refl, ap, ◌∙◌, arith}
+use Rattle.std.proofs.Common.{◌≡◌, ℕ, ◌+◌, ◌<◌, Bool, true, false, cond, not, List, [], ◌∷◌, length, get_or, take, sym, refl, ap, ◌∙◌, arith}
 use Rattle.std.specs.List.{prefix_len}
-use Rattle.std.proofs.lemmas.List.Sums.{prefix_len-le-length}
+use Rattle.std.proofs.lemmas.List.Sums.{prefix_len-le-length, prefix_len_passes}
 use Rattle.std.proofs.lemmas.Bool.Decides.{nat_tests}
 use Rattle.text.specs.Lines.{is_end, content}
 use Rattle.scanner.specs.declared.runs.Run.{Run}
@@ -41,3 +41,7 @@ all_content (b ∷ bs) = elim (is_end b) as (λ v. cond (not v) (1 + prefix_len 
 pub run_taken : (run : Run) (s : List ℕ) → take (prefix_len (belongs run) s) s ≡ take (prefix_len (belongs run) (content s)) (content s)
 run_taken run s =
     ap (λ (n : ℕ). take n s) (run_content run s) ∙ sym (take_content (prefix_len (belongs run) (content s)) s (prefix_len-le-length (belongs run) (content s)))
+
+-- each byte of a front passes its test
+pub leading_in : (p : ℕ → Bool) (bs : List ℕ) (i : ℕ) → i < prefix_len p bs → p (get_or bs i 0) ≡ true
+leading_in p bs i h = prefix_len_passes p bs i 0 h

@@ -4,7 +4,7 @@ ghost use Rattle.scanner.specs.Pieces.{plain};
 
 use languages::token::TokenType;
 
-// What a token is, wherever it stands. The length counts bytes.
+// What a token is, wherever it stands. The length counts bytes: no buffer stands beside it.
 #[derive(Clone, Copy)]
 pub struct Piece {
     pub length: usize,

@@ -17,6 +17,7 @@ pub enum Run {
 }
 
 impl Run {
+    // The match is the table of the classes.
     fn has(self, b: u8) -> bool
         ensures { result ≡ belongs self b }
     {

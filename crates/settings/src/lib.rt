@@ -64,6 +64,7 @@ impl Reader for Settings {
     #[tactic(auto, using(scanner::proofs::Classes::run_content))]
     fn piece(&self, clear: bool, rest: &[u8]) -> Option<Piece> {
         let (first, _) = rest.split_first()?;
+        // each class is read in a way of its own
         match opened_by(*first)? {
             Opening::Word => {
                 let length = Run::Word.length_in(rest);

@@ -22,6 +22,7 @@ pub trait PositionEncoding {
 
     ghost counts: { (e : Self) → Counts (units e) LARGEST };
 
+    // One line each, here and below: what differs is the constant.
     final fn stated_name(&self) -> u32
         ensures { result ≡ NAME }
     {

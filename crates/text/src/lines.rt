@@ -12,6 +12,7 @@ pub(crate) fn is_line_end(b: u8) -> bool
 }
 
 // Whether a line ends right after the byte at the place: LF, or CR with no LF behind it. Past the text none does.
+// A `match`: what each byte says is a test of its own.
 pub fn ends_line(text: &[u8], at: usize) -> bool
     ensures { result ≡ ends_at (drop at text.now) }
 {

@@ -11,11 +11,17 @@ use Rattle.utf8.specs.Characters.{Begins}
 use Rattle.utf8.specs.Grammar.{Octets, none, one, two, three, four, well_formed, TableIsUtf8, TestDecidesUtf8}
 use Rattle.utf8.proofs.Chars.{begins_one, begins_two, begins_three, begins_four, RangedAt, ranged, enc_one, enc_two, enc_three, enc_four}
 
+same_from : (xs ys : List ℕ) → bytes_eq xs ys ≡ true → xs ≡ ys
+same_from xs ys = (bytes_eq-Decides xs ys).0
+
+same_self : (xs : List ℕ) → bytes_eq xs xs ≡ true
+same_self xs = (bytes_eq-Decides xs xs).1 refl
+
 pub test_decides_utf8 : TestDecidesUtf8
 unfolding well_formed
 test_decides_utf8 bs = (
-  λ e. let p = and_parts _ _ e in (chars bs, (p.0, (bytes_eq-Decides _ _).0 p.1)),
-  λ u. and_from _ _ (scalars-chars bs u) (subst (λ x. bytes_eq x bs ≡ true) (sym (encodes-chars bs u)) ((bytes_eq-Decides bs bs).1 refl)),
+  λ e. let p = and_parts _ _ e in (chars bs, (p.0, same_from _ _ p.1)),
+  λ u. and_from _ _ (scalars-chars bs u) (subst (λ x. bytes_eq x bs ≡ true) (sym (encodes-chars bs u)) (same_self bs)),
 )
 
 two_wide : (c : ℕ) → 128 ≤ c → c < 2048 → len_utf8 c ≡ 2

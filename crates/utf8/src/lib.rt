@@ -17,6 +17,7 @@ fn is_second(first: u8, b: u8) -> bool
     ensures { IsTrue result ↔ Second first b }
 {
     match first {
+        // one arm of those that give tests
         0x00..=0xC1 | 0xF5..=0xFF => false,
         0xE0 => matches!(b, 0xA0..=0xBF),
         0xED => matches!(b, 0x80..=0x9F),
@@ -72,7 +73,8 @@ fn four(bytes: &[u8]) -> Option<char>
     char::from_u32(high * 4096 + (*c as u32 - 0x80) * 64 + (*d as u32 - 0x80))
 }
 
-// The character that begins the bytes: the number of leading one bits in the first of them gives its length.
+// The character that begins the bytes: the number of leading one bits in the first of them gives its length, and is a
+// count, not a kind. A pattern for the first byte too: `first` was tried, and left its facts to be carried over.
 fn character(bytes: &[u8]) -> Option<char>
     ensures { First bytes.now result }
 {

@@ -6,7 +6,7 @@ use notation::{
 use std::alloc::Global;
 use text::places::{Position, Range};
 
-// A position in an encoding.
+// A position in an encoding. A struct of this program's own, as `Order` is: its fields are a case's.
 #[derive(Clone, Copy)]
 pub struct Spot {
     pub encoding: Encoding,

@@ -65,6 +65,9 @@ digits_front (b ∷ ds) r c (suc n) d l e =
     let m = prefix_len is_ascii_digit (take n (ds ++ (c ∷ r))) in
     ap (λ (k : ℕ). take k (b ∷ (ds ++ (c ∷ r)))) (cond-true (is_ascii_digit b) (1 + m) 0 is ∙ one-add m) ∙ ap (λ x. b ∷ x) (digits_front ds r c n d.1 (omega arith) e)
 
+same_self : (xs : List ℕ) → bytes_eq xs xs ≡ true
+same_self xs = (bytes_eq-Decides xs xs).1 refl
+
 pub headers_announce : HeadersAnnounce
 unfolding heading
 headers_announce n rest h =
@@ -72,7 +75,7 @@ headers_announce n rest h =
     let few = length-decimal-le 5 n (omega arith) (omega arith) (omega arith) in
     let digits : digits_of 5 (drop 16 (heading n ++ rest)) ≡ decimal n = ap (digits_of 5) (append_assoc (decimal n) ending rest) ∙ digits_front (decimal n) _ 13 5 reads.0.1 few refl in (
       ap (digits_value 10) digits ∙ reads.1,
-      and_from _ _ (le-leb n body_limit h) (ap (bytes_eq (heading n)) (take_at (heading n) rest (length (heading n)) refl) ∙ (bytes_eq-Decides (heading n) (heading n)).1 refl),
+      and_from _ _ (le-leb n body_limit h) (ap (bytes_eq (heading n)) (take_at (heading n) rest (length (heading n)) refl) ∙ same_self (heading n)),
     )
 
 -- the front of a frame, held against a header that was written for it

@@ -25,7 +25,7 @@ impl Kind {
         self as u32
     }
 
-    // A word of this kind.
+    // A word of this kind: made, not converted.
     pub fn word(self, value: u32) -> Word
         ensures { result ≡ worded self value }
     {
@@ -45,8 +45,9 @@ fn word_at(body: &[u8], at: usize) -> Option<u32>
     Some(u32::from_be_bytes(*bytes))
 }
 
-// The value of the word at a place, if there is one, it is of that kind, and it lies between `low` and `high`. The kind is
-// a number: a `Kind` would ask more of who calls.
+// The value of the word at a place, if there is one, it is of that kind, and it lies between `low` and `high`. The
+// kind is a number: a `Kind` would ask more of who calls; so would a record of the five, and the place differs in
+// every call.
 pub fn field(body: &[u8], at: usize, kind: u32, low: u32, high: u32) -> Option<u32>
     ensures { result ≡ field_at body.now at kind low high }
 {
@@ -56,9 +57,9 @@ pub fn field(body: &[u8], at: usize, kind: u32, low: u32, high: u32) -> Option<u
     fits.then_some(value)
 }
 
-// Writes the bytes at a place, and answers the place behind them. What writes at a place says the place in its own measure
-// (bytes, four for a word, four for each of the words), so the three facts stand at each: one record would say all by the
-// length of the bytes, which is no plainer.
+// Writes the bytes at a place, and answers the place behind them. What writes at a place says the place in its own
+// measure (bytes, four for a word, four for each of the words), so the three facts stand at each: one record would say
+// all by the length of the bytes, which is no plainer.
 pub fn put_bytes(out: &mut [u8], at: usize, bytes: &[u8]) -> usize
     requires { at + length bytes.now ≤ length out.old }
     ensures next { result ≡ at + length bytes.now }
