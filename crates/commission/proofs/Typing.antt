@@ -36,6 +36,10 @@ clear_taken : {M S : Type 0} (m : M) (s : S) (cs : List (ℕ × Bool)) → Clear
 clear_taken m s [] h = refl
 clear_taken m s (c ∷ cs) h = rw h.0 (clear_taken m s cs h.1)
 
+-- the same, with the list of checks first
+pub all_past : {M S : Type 0} (cs : List (ℕ × Bool)) (m : M) (s : S) → Clear cs → settle cs m s ≡ taken s
+all_past cs m s h = clear_taken m s cs h
+
 module _ (v : View) (r : Range) (new : List ℕ) where
   abbrev pub u : ℕ → ℕ
   u = units_of v.encoding

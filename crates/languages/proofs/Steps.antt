@@ -1,9 +1,11 @@
 -- The token list, asked step by step, and the law of beginnings from what each answer keeps. Assumes nothing.
 use Rattle.std.proofs.Common.{◌≡◌, ℕ, zero, suc, ◌-◌, ◌<◌, ◌≤◌, List, [], ◌∷◌, ◌++◌, length, Some, None, Option, MatchOption, sym, refl, ap, ◌∙◌, arith, length-append}
 use Rattle.std.proofs.lemmas.Bool.{lt-ltb, le-ltb}
-use Rattle.text.specs.Positions.{IsText}
+use Rattle.refusals.specs.Outcomes.{refused, taken}
+use Rattle.refusals.proofs.Settles.{settle_taken, settle_refused}
+use Rattle.text.specs.Positions.{IsText, text_checks, check_rule}
 use Rattle.languages.specs.declared.token.Token.{Token}
-use Rattle.languages.specs.Tokens.{LanguageLaws, Step, Next, followed, up_to, rest, tokens, within, end}
+use Rattle.languages.specs.Tokens.{LanguageLaws, Step, Next, followed, up_to, rest, tokens, within, end, count_rule}
 
 -- no more tokens than steps, and so no more than bytes
 up_to_few : (fuel : ℕ) (next : Next) (text : List ℕ) (from : ℕ) → length (up_to fuel next text from) ≤ fuel
@@ -125,3 +127,15 @@ module _ (next : Next) (p x : List ℕ) (here : GoesOn next p) (there : GoesOn n
   pub cut_tokens : within (length p) (tokens next (p ++ x)) ≡ tokens next p
   unfolding tokens
   cut_tokens = cut_from (length (p ++ x) - 0) (length p - 0) 0 (omega arith) (simp length-append (omega arith)) (omega arith)
+
+-- what a count says of the bytes that were counted
+
+pub uncounted : (next : Next) (t : List ℕ) (k : ℕ) → refused k tt ≡ count_rule next t → refused k tt ≡ check_rule t
+uncounted next t k e = sym (settle_refused (tt {0}) (length (tokens next t)) (tt {0}) (tt {0}) (text_checks t) k tt (sym e)).1
+
+module _ (next : Next) (t : List ℕ) (n : ℕ) (e : taken n ≡ count_rule next t) where
+  pub counted : n ≡ length (tokens next t)
+  counted = (settle_taken (tt {0}) (length (tokens next t)) (tt {0}) (tt {0}) (text_checks t) n (sym e)).0
+
+  pub counted_text : taken tt ≡ check_rule t
+  counted_text = sym (settle_taken (tt {0}) (length (tokens next t)) (tt {0}) (tt {0}) (text_checks t) n (sym e)).1

@@ -1,7 +1,7 @@
 -- What is left of a TEXT while it is read. Assumes nothing.
-use Rattle.std.proofs.Common.{◌≡◌, ℕ, zero, suc, pred, ◌<◌, true, false, cond, ◌==◌, List, [], ◌∷◌, ◌++◌, length, drop, Some, None, Option, refl, ap, ◌∙◌, append_assoc, arith}
+use Rattle.std.proofs.Common.{◌≡◌, ℕ, zero, suc, pred, ◌+◌, ◌<◌, ◌≤◌, true, false, cond, ◌==◌, List, [], ◌∷◌, ◌++◌, length, get_or, drop, Some, None, Option, refl, ap, ◌∙◌, append_assoc, arith}
 use Rattle.std.specs.Option.{option_map, option_and_then}
-use Rattle.std.proofs.lemmas.List.{length-drop}
+use Rattle.std.proofs.lemmas.List.{drop_more, drop_all, length-drop}
 use Rattle.std.proofs.lemmas.Option.{none-some}
 use Rattle.std.proofs.lemmas.Bool.{ne_eqb}
 use Rattle.notation.specs.Texts.{spelling_of, byte_of, ahead, body_of, text_of}
@@ -23,6 +23,20 @@ pub body_skip : (k : ℕ) (bs : List ℕ) → body_of k bs ≡ body_of 0 (drop k
 body_skip zero bs = refl
 body_skip (suc k) [] = refl
 body_skip (suc k) (b ∷ bs) = body_skip k bs
+
+-- what is left from a place on: no byte, the closing quote, a spelling, or a byte that spells none
+module _ (bs : List ℕ) (i : ℕ) where
+  pub body_end : length bs ≤ i → body_of 0 (drop i bs) ≡ None
+  body_end h = rw (drop_all i bs) refl
+
+  pub body_closed : i < length bs → get_or bs i 0 ≡ 34 → body_of 0 (drop i bs) ≡ Some ([], drop (i + 1) bs)
+  body_closed h e = rw (drop_more bs i 0, e) refl
+
+  pub body_next : i < length bs → (get_or bs i 0 ≡ 34 → ⊥) → body_of 0 (drop i bs) ≡ option_and_then (λ s. ahead s.0 (body_of (pred s.1) (drop (i + 1) bs))) (spelling_of (drop i bs))
+  body_next h ne = let apart = ne_eqb (get_or bs i 0) 34 ne in rw (drop_more bs i 0, apart) refl
+
+  pub body_ill : i < length bs → (get_or bs i 0 ≡ 34 → ⊥) → spelling_of (drop i bs) ≡ None → body_of 0 (drop i bs) ≡ None
+  body_ill h ne e = body_next h ne ∙ ap (option_and_then (λ s. ahead s.0 (body_of (pred s.1) (drop (i + 1) bs)))) e
 
 spelled : (bs : List ℕ) (b n : ℕ) → spelling_of bs ≡ Some (b, n) → 0 < n → body_of 0 bs ≡ ahead b (body_of 0 (drop n bs))
 spelled [] b n e pos = cc

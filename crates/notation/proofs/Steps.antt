@@ -1,5 +1,5 @@
 -- What the readers take from the front of a list. Assumes nothing.
-use Rattle.std.proofs.Common.{◌≡◌, ℕ, suc, ◌+◌, ◌-◌, ◌*◌, ◌<◌, ◌≤◌, true, false, not, cond, List, [], ◌∷◌, length, take, drop, Some, None, Ok, Err, Result, sym, refl, ap, subst, ◌∙◌, arith, rules}
+use Rattle.std.proofs.Common.{◌≡◌, ℕ, suc, ◌+◌, ◌-◌, ◌*◌, ◌<◌, ◌≤◌, true, false, not, cond, List, [], ◌∷◌, length, get_or, take, drop, Some, None, Ok, Err, Result, sym, refl, ap, subst, ◌∙◌, arith, rules}
 use Rattle.std.specs.Char.{is_ascii_digit}
 use Rattle.std.specs.List.{prefix_len, position, position_or_len, take_while, before_first, after_first}
 use Rattle.std.specs.Option.{option_map}
@@ -9,11 +9,23 @@ use Rattle.std.specs.Str.Parse.{ParsesUnsigned}
 use Rattle.std.proofs.lemmas.Str.Parse.{IsNumeralModel, numerals_by_fold, parse_digits}
 use Rattle.std.proofs.lemmas.Str.Ascii.{IsAscii-nil, IsAscii-cons}
 use Rattle.std.proofs.lemmas.Bool.Decides.{nat_tests}
-use Rattle.notation.specs.Numbers.{digits, worth, number_of}
-use Rattle.std.proofs.lemmas.List.{take_all, drop_all, take_rest}
+use Rattle.std.proofs.lemmas.Bool.{eq-eqb}
+use Rattle.notation.specs.Numbers.{digits, worth, number_of, behind}
+use Rattle.std.proofs.lemmas.List.{drop_more, take_all, drop_all, take_rest}
 use Rattle.std.proofs.lemmas.List.Sums.{take_while-cons}
 use Rattle.std.proofs.lemmas.List.Folds.{length-prefix_len}
 use Rattle.notation.specs.ScriptLines.{is_end, line_of, lengthened, lines_of}
+
+-- the digits from a place on
+module _ (bs : List ℕ) (i : ℕ) where
+  pub digits_more : i < length bs → is_ascii_digit (get_or bs i 0) ≡ true → digits (drop i bs) ≡ get_or bs i 0 ∷ digits (drop (i + 1) bs)
+  digits_more h e = rw (drop_more bs i 0, e) refl
+
+  pub digits_stop : i < length bs → is_ascii_digit (get_or bs i 0) ≡ false → digits (drop i bs) ≡ []
+  digits_stop h e = rw (drop_more bs i 0, e) refl
+
+  pub digits_end : length bs ≤ i → digits (drop i bs) ≡ []
+  digits_end h = rw (drop_all i bs) refl
 
 pub digits_front : (bs : List ℕ) → digits bs ≡ take_while is_ascii_digit bs
 digits_front [] = refl
@@ -87,3 +99,8 @@ lines_next (b ∷ bs) line rest h e = lines_first b bs ∙ ap (λ p. p.0 ∷ lin
 pub worth_grows : (n : ℕ) (ds : List ℕ) → n ≤ worth n ds
 worth_grows n [] = omega arith
 worth_grows n (d ∷ ds) = let h = worth_grows (n * 10 + (d - 48)) ds in omega arith
+
+-- the rest as the code has it
+pub behind_first : (m : ℕ) (bs : List ℕ) → 0 < length bs → get_or bs 0 0 ≡ m → behind m bs ≡ Some (take (length bs - 1) (drop 1 bs))
+behind_first m [] h e = absurd (omega arith)
+behind_first m (b ∷ bs) h e = rw (eq-eqb b m e) (ap Some (sym (take_rest (b ∷ bs) 1)))
