@@ -1,19 +1,11 @@
 -- What the readers take from the front of a list. Assumes nothing.
-use Rattle.std.proofs.Common.{◌≡◌, ℕ, suc, ◌+◌, ◌-◌, ◌*◌, ◌<◌, ◌≤◌, true, false, not, cond, List, [], ◌∷◌, length, get_or, take, drop, Some, None, Ok, Err, Result, sym, refl, ap, subst, ◌∙◌, arith, rules}
+use Rattle.std.proofs.Common.{◌≡◌, ℕ, suc, ◌+◌, ◌-◌, ◌*◌, ◌<◌, ◌≤◌, true, false, not, cond, List, [], ◌∷◌, length, get_or, take, drop, Some, None, sym, refl, ap, ◌∙◌, arith}
 use Rattle.std.specs.Char.{is_ascii_digit}
-use Rattle.std.specs.List.{prefix_len, position, position_or_len, take_while, before_first, after_first}
-use Rattle.std.specs.Option.{option_map}
-use Rattle.std.specs.Result.{MatchResult, result_ok}
-use Rattle.std.specs.Str.{IsAscii, all_ascii_digits}
-use Rattle.std.specs.Str.Parse.{ParsesUnsigned}
-use Rattle.std.proofs.lemmas.Str.Parse.{IsNumeralModel, numerals_by_fold, parse_digits}
-use Rattle.std.proofs.lemmas.Str.Ascii.{IsAscii-nil, IsAscii-cons}
+use Rattle.std.specs.List.{position, position_or_len, before_first, after_first}
 use Rattle.std.proofs.lemmas.Bool.Decides.{nat_tests}
 use Rattle.std.proofs.lemmas.Bool.{eq-eqb}
-use Rattle.notation.specs.Numbers.{digits, worth, number_of, behind}
+use Rattle.notation.specs.Numbers.{digits, worth, behind}
 use Rattle.std.proofs.lemmas.List.{drop_more, take_all, drop_all, take_rest}
-use Rattle.std.proofs.lemmas.List.Sums.{take_while-cons}
-use Rattle.std.proofs.lemmas.List.Folds.{length-prefix_len}
 use Rattle.notation.specs.ScriptLines.{is_end, line_of, lengthened, lines_of}
 
 -- the digits from a place on
@@ -26,45 +18,6 @@ module _ (bs : List ℕ) (i : ℕ) where
 
   pub digits_end : length bs ≤ i → digits (drop i bs) ≡ []
   digits_end h = rw (drop_all i bs) refl
-
-pub digits_front : (bs : List ℕ) → digits bs ≡ take_while is_ascii_digit bs
-digits_front [] = refl
-digits_front (b ∷ bs) = ap (λ ds. cond (is_ascii_digit b) (b ∷ ds) []) (digits_front bs) ∙ sym (take_while-cons is_ascii_digit b bs)
-
-pub digits_size : (bs : List ℕ) → length (digits bs) ≡ prefix_len is_ascii_digit bs
-digits_size bs = ap length (digits_front bs) ∙ length-prefix_len is_ascii_digit bs
-
-pub digits_pass : (bs : List ℕ) → all_ascii_digits (digits bs) ≡ true
-digits_pass [] = refl
-digits_pass (b ∷ bs) = let h = digits_pass bs in grind (arith, nat_tests)
-
-pub digits_ascii : (bs : List ℕ) → IsAscii (digits bs)
-digits_ascii [] = IsAscii-nil
-digits_ascii (b ∷ bs) =
-    let h = digits_ascii bs in
-    elim (is_ascii_digit b) as (λ v. is_ascii_digit b ≡ v → IsAscii (cond v (b ∷ digits bs) [])) [
-      | true ↦ λ e. IsAscii-cons b (digits bs) (grind (arith, nat_tests)) h
-      | false ↦ λ e. IsAscii-nil
-    ] refl
-
-module _ {T E : Type 0} (P : T → Type 0) (Q : E → Type 0) where
-  -- what is known of the value, and that there is one
-  pub ok_then : (r : Result T E) → MatchResult r P Q → (x : T) → result_ok r ≡ Some x → P x
-  ok_then (Ok y) h x e = let same : y ≡ x = cc in subst P same h
-  ok_then (Err f) h x e = cc
-
-  pub ok_there : (r : Result T E) → MatchResult r P Q → ((f : E) → Q f → ⊥) → result_ok r ≡ None → ⊥
-  ok_there (Ok y) h never e = cc
-  ok_there (Err f) h never e = never f h
-
--- the numeral of the digits, by the number that they write
-own : IsNumeralModel (λ ds. all_ascii_digits ds ≡ true) (worth 0)
-own = numerals_by_fold _ (search rules) worth (search rules)
-
-pub number_parsed : (bs : List ℕ) {E : Type 0} (r : Result ℕ E) → ParsesUnsigned 32 10 (digits bs) r → option_map (λ n. (n, drop (length (digits bs)) bs)) (result_ok r) ≡ number_of bs
-unfolding number_of
-number_parsed bs {E} (Ok n) h = let read = parse_digits own {E = E} 32 (digits bs) (Ok n) h (digits_pass bs) in grind (arith, nat_tests, read)
-number_parsed bs {E} (Err e) h = let read = parse_digits own {E = E} 32 (digits bs) (Err e) h (digits_pass bs) in grind (arith, nat_tests, read)
 
 -- the first line, by the place of its end
 pub line_ended : (bs : List ℕ) (n : ℕ) → Some n ≡ position is_end bs → (take n bs, take (length bs - (n + 1)) (drop (n + 1) bs)) ≡ line_of bs

@@ -1,14 +1,29 @@
 // Writes bytes as TEXT: printable ASCII as itself, LF, CR, tab, quote and backslash by their letters, any other byte by
 // capital hexadecimal digits.
 ghost use Rattle.std.specs.Prelude.{◌≡◌, ℕ, ◌<◌, List, ◌++◌, Some, string_bytes, OnOk};
-ghost use Rattle.notation.specs.Texts.{hex_spelled, spelled, written, text_of};
+ghost use Rattle.notation.specs.Texts.{hex_digit, hex_spelled, spelled, written, text_of};
 
 use std::alloc::AllocError;
+
+// The capital hexadecimal digit of a number below 16.
+fn hex_digit(value: u8) -> char
+    requires { value < 16 }
+    ensures { result ≡ hex_digit value }
+{
+    if value < 10 {
+        (b'0' + value) as char
+    } else {
+        (b'A' + (value - 10)) as char
+    }
+}
 
 fn write_hex(byte: u8, into: &mut String) -> Result<(), AllocError>
     ensures { OnOk result (string_bytes into.new ≡ string_bytes into.old ++ hex_spelled byte) }
 {
-    write!(into, "\\x{byte:02X}")
+    // no `{byte:02X}`: timed, it took three times as long for a byte, and twice as long for a run that writes many
+    into.push_str("\\x")?;
+    into.push(hex_digit(byte / 16))?;
+    into.push(hex_digit(byte % 16))
 }
 
 fn write_byte(byte: u8, into: &mut String) -> Result<(), AllocError>

@@ -4,7 +4,7 @@ use coding::placed::PlacedToken;
 use languages::language::Language;
 use languages::token::Token;
 use languages::walk::Tokens;
-use notation::{Unread, read_number};
+use notation::{Unread, read_mark, read_number};
 use std::alloc::{AllocError, Global};
 use text::changes::Text;
 
@@ -23,14 +23,16 @@ pub(crate) fn write_numbers(heap: Global, numbers: &[u32]) -> Result<String, All
 // Numbers with commas between them, and nothing behind the last.
 pub(crate) fn read_numbers(heap: Global, from: &[u8]) -> Result<Vec<u32>, Unread> {
     let mut numbers = Vec::new(heap);
-    for field in from.split(|byte| *byte == b',') {
-        let number = read_number(field).ok_or(Unread::IllFormed)?;
-        if !number.rest.is_empty() {
-            return Err(Unread::IllFormed);
-        }
+    let mut rest = from;
+    // no `split` at the commas: a number ends by itself, and looking for its end first took a fifth longer
+    loop {
+        let number = read_number(rest).ok_or(Unread::IllFormed)?;
         numbers.push(number.value).map_err(AllocError::from)?;
+        if number.rest.is_empty() {
+            return Ok(numbers);
+        }
+        rest = read_mark(number.rest, b',').ok_or(Unread::IllFormed)?;
     }
-    Ok(numbers)
 }
 
 // The tokens of a coded list.

@@ -1,44 +1,33 @@
-use Rattle.std.proofs.Common.{◌≡◌, List, ℕ, ap, sym, ◌∙◌, take, drop, length, Some, None}
-use Rattle.std.specs.Str.{IsUtf8}
-use Rattle.std.specs.Result.{result_ok}
-use Rattle.std.proofs.lemmas.Str.{IsUtf8-from_ascii}
-use Rattle.std.specs.Char.{is_ascii_digit}
-use Rattle.std.specs.List.{prefix_len}
-use Rattle.std.proofs.lemmas.List.Sums.{prefix_len-le-length}
-use Rattle.notation.specs.Numbers.{digits}
-use Rattle.notation.proofs.Steps.{digits_front, digits_size, digits_ascii, ok_then, ok_there, number_parsed}
+use Rattle.std.proofs.Common.{◌≡◌, ◌+◌, ◌-◌, ◌*◌, [], length, get_or, drop, sym, ap, ◌∙◌, arith}
+use Rattle.std.proofs.lemmas.List.{take_rest}
+use Rattle.std.proofs.lemmas.Bool.Decides.{nat_tests}
+use Rattle.notation.specs.Numbers.{digits, worth, number_of}
+use Rattle.notation.proofs.Steps.{digits_more, digits_stop, digits_end, worth_grows}
 use Rattle.notation.proofs.number.read_number.Goals as goal
+use Rattle.notation.proofs.number.read_number.Goals.{After-then_some, else-loop-b-test, then-loop-b-test+then-not-is_ascii_digit}
 
--- what stands before the rest are the digits
-front : (from first : List ℕ) (n : ℕ) → first ≡ take n from → n ≡ prefix_len is_ascii_digit from → first ≡ digits from
-front from first n e size = e ∙ ap (λ k. take k from) size ∙ sym (digits_front from)
+pub returns-then-value-from : goal.returns-then-value-from
+unfolding number_of
+returns-then-value-from c =
+    let more = digits_more c.args.from.now c.loop-b.b-index c.loop-b-test.true (sym (c.if-not-is_ascii_digit.ensures.value)) in
+    let large = worth_grows (c.loop-b.value * 10 + (get_or c.args.from.now c.loop-b.b-index 0 - 48)) (digits (drop (c.loop-b.b-index + 1) c.args.from.now)) in
+    let same = sym (ap (worth c.loop-b.value) more) ∙ c.loop-b.invariant.2 in
+    grind (arith, nat_tests)
 
--- they are text
-text : (from first : List ℕ) → first ≡ digits from → IsUtf8 first
-text from first e = rw e (IsUtf8-from_ascii (digits from) (digits_ascii from))
-
-pub returns-in_err-ok : goal.returns-in_err-ok
-returns-in_err-ok c =
-    let first = front c.args.from.now c.split_at.result.0.now c.digit_count.result c.split_at.ensures.front c.digit_count.ensures in
-    absurd (ok_there _ _ c.from_utf8.result c.from_utf8.ensures.cases (λ f h. h.0 (text c.args.from.now c.split_at.result.0.now first)) (sym c.ok.ensures.value ∙ c.in_err-ok.was))
-
-pub returns-in_err-value : goal.returns-in_err-value
-returns-in_err-value c =
-    let first = front c.args.from.now c.split_at.result.0.now c.digit_count.result c.split_at.ensures.front c.digit_count.ensures in
-    let same = (ok_then _ _ c.from_utf8.result c.from_utf8.ensures.cases c.in_ok-ok.field-0 (sym c.ok.ensures.value ∙ c.in_ok-ok.was)).0 ∙ first in
-    let parsed = number_parsed c.args.from.now c.parse.result (rw same at c.parse.ensures.value.0) in
-    let none : result_ok c.parse.result ≡ None = sym c.ok-2.ensures.value ∙ c.in_err-value.was in
-    rw (c.from_residual-in_err-value.ensures) (rw none at parsed)
+-- no digit is left
+ended : (c : After-then_some) → digits (drop c.loop-b.b-index c.args.from.now) ≡ []
+ended c =
+    elim c.loop-b-test.branch [
+      | else-loop-b-test w ↦ digits_end c.args.from.now c.loop-b.b-index w.loop-b-test.false
+      | then-loop-b-test+then-not-is_ascii_digit w ↦ digits_stop c.args.from.now c.loop-b.b-index w.loop-b-test.true (sym w.if-not-is_ascii_digit.ensures.value)
+    ]
 
 pub returns : goal.returns
+unfolding number_of
 returns c =
-    let first = front c.args.from.now c.split_at.result.0.now c.digit_count.result c.split_at.ensures.front c.digit_count.ensures in
-    let same = (ok_then _ _ c.from_utf8.result c.from_utf8.ensures.cases c.in_ok-ok.field-0 (sym c.ok.ensures.value ∙ c.in_ok-ok.was)).0 ∙ first in
-    let parsed = number_parsed c.args.from.now c.parse.result (rw same at c.parse.ensures.value.0) in
-    let some : result_ok c.parse.result ≡ Some c.in_ok-value.value = sym c.ok-2.ensures.value ∙ c.in_ok-value.was in
-    let rest : c.split_at.result.1.now ≡ drop (length (digits c.args.from.now)) c.args.from.now =
-    c.split_at.ensures.back ∙ ap (λ n. drop n c.args.from.now) (c.digit_count.ensures ∙ sym (digits_size c.args.from.now)) in
-    rw rest (rw some at parsed)
-
-pub split_at-requires : goal.split_at-requires
-split_at-requires c = rw c.digit_count.ensures (prefix_len-le-length is_ascii_digit c.args.from.now)
+    let none = ended c in
+    let size : length (digits c.args.from.now) ≡ c.loop-b.b-index = omega (arith, ap length none) in
+    let all = sym (ap (worth c.loop-b.value) none) ∙ c.loop-b.invariant.2 in
+    let rest = take_rest c.args.from.now c.loop-b.b-index in
+    let behind = ap (λ n. drop n c.args.from.now) size in
+    grind (arith, nat_tests)
