@@ -18,17 +18,27 @@ pub const TOKEN_LIMIT: usize = 512;
 
 pub const LIST_LIMIT: usize = 2560;
 
-// One token's five numbers, where there is room for them.
-fn put(numbers: &mut Growing<'_, u32>, token: [u32; 5])
+// One token's five numbers, where there is room for them. Five parameters: an array of them would be one more that a
+// device has to hold.
+fn put(
+    numbers: &mut Growing<'_, u32>,
+    lines: u32,
+    columns: u32,
+    units: u32,
+    kind: u32,
+    modifiers: u32,
+)
     requires { numbers.old.used + 5 ≤ length numbers.old.slots.now }
-    ensures items { take numbers.new.used numbers.new.slots.now ≡ take numbers.old.used numbers.old.slots.now ++ token }
+    ensures items { take numbers.new.used numbers.new.slots.now ≡ take numbers.old.used numbers.old.slots.now ++ (lines ∷ (columns ∷ (units ∷ (kind ∷ (modifiers ∷ []))))) }
     ensures used { numbers.new.used ≡ numbers.old.used + 5 }
     ensures kept_length { length numbers.new.slots.now ≡ length numbers.old.slots.now }
     ensures slots_name { numbers.new.slots.ghost_name ≡ numbers.old.slots.ghost_name }
 {
-    for number in token {
-        numbers.push(number).unwrap();
-    }
+    numbers.push(lines).unwrap();
+    numbers.push(columns).unwrap();
+    numbers.push(units).unwrap();
+    numbers.push(kind).unwrap();
+    numbers.push(modifiers).unwrap();
 }
 
 // The column of a token, from the column of the token before where both share a line.
@@ -70,7 +80,11 @@ fn gather<L: Language, E: PositionEncoding>(
         let units = end.column - start.column;
         put(
             &mut numbers,
-            [lines, columns, units, token.kind, token.modifiers],
+            lines,
+            columns,
+            units,
+            token.kind,
+            token.modifiers,
         );
         before = start;
         cursor = end;

@@ -40,7 +40,8 @@ impl<'a> Model for Decoded<'a> {
 impl<'a> Decoded<'a> {
     // A list has at most 512 tokens: numbers past the first 2,560 are not looked at.
     pub fn new(list: &'a [u32]) -> Decoded<'a>
-        ensures { result ≡ decode 0 0 (take list_limit list.now) }
+        ensures tokens { result ≡ decode 0 0 (take list_limit list.now) }
+        ensures back { DecodingUndoesCoding }
     {
         Decoded {
             rest: &list[..list.len().min(LIST_LIMIT)],
