@@ -29,7 +29,7 @@ fitness items n lent h l =
     ap (λ b. b || not (well_formed (take n (take lent items)))) (le-ltb limit n l) ∙ ap (λ t. not (well_formed t)) (take-take n lent items (omega arith)))
 
 -- no check fits
-abbrev Clear : List (ℕ × Bool) → Type 0
+abbrev pub Clear : List (ℕ × Bool) → Type 0
 Clear cs = AllByRecursion (λ c. c.1 ≡ false) cs
 
 clear_taken : {M S : Type 0} (m : M) (s : S) (cs : List (ℕ × Bool)) → Clear cs → settle cs m s ≡ taken s

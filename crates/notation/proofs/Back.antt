@@ -30,7 +30,7 @@ body_back (b ∷ bs) rest (small, all) =
     let apart : flat_map spelled (b ∷ bs) ++ (34 ∷ []) ++ rest ≡ spelled b ++ (flat_map spelled bs ++ (34 ∷ []) ++ rest) = simp append_assoc in
     ap (body_of 0) apart ∙ one_back b (flat_map spelled bs ++ (34 ∷ []) ++ rest) small ∙ ap (ahead b) (body_back bs rest all)
 
-read_back : (bs rest : List ℕ) → AllByRecursion (λ b. b < 256) bs → text_of (written bs ++ rest) ≡ Some (bs, rest)
+pub read_back : (bs rest : List ℕ) → AllByRecursion (λ b. b < 256) bs → text_of (written bs ++ rest) ≡ Some (bs, rest)
 unfolding text_of written
 read_back bs rest h = body_back bs rest h
 

@@ -139,7 +139,7 @@ module _ (u : ℕ → ℕ) (m : List ℕ) (n : ℕ) (r : Range) (new : List ℕ)
             ap length (typed_is u text r a b is new) ∙ replaced_length text new a b (omega (arith, in_order u text r a b is, end_within u text r a b is))
             ∙ ap (λ (k : ℕ). a + length new + (k - b)) text_length
 
-        changed : (k : ℕ) (s : List ℕ) → length s ≡ limit → holds k (take k s) ≡ splice_rule (take limit m) n a b new
+        pub changed : (k : ℕ) (s : List ℕ) → length s ≡ limit → holds k (take k s) ≡ splice_rule (take limit m) n a b new
             → taken (leaves (s ++ drop limit m) k) ≡ change_rule u m n r new
         changed k s long e =
             let h = held (take limit m) new a b n k (take k s) e in
@@ -151,7 +151,7 @@ module _ (u : ℕ → ℕ) (m : List ℕ) (n : ℕ) (r : Range) (new : List ℕ)
             let fine : ltb limit (length (typed u text r new)) ≡ false = le-ltb limit _ (omega (arith, h.1, kept_length)) in
             (λ i. taken (record { size = size i; text = front i; beyond = back i })) ∙ sym (cond-false _ _ _ fine) ∙ size_next
 
-        too_long : (s : List ℕ) → kept s ≡ splice_rule (take limit m) n a b new → refused 15 (s ++ drop limit m) ≡ change_rule u m n r new
+        pub too_long : (s : List ℕ) → kept s ≡ splice_rule (take limit m) n a b new → refused 15 (s ++ drop limit m) ≡ change_rule u m n r new
         too_long s e =
             let h = stays (take limit m) new a b n s e in
             let whole : s ++ drop limit m ≡ m = ap (λ x. x ++ drop limit m) h.1 ∙ take-append-drop limit m in
