@@ -92,6 +92,7 @@ fn character(bytes: &[u8]) -> Option<char>
 
 // The scalar value at the place, none where no character begins: past the end, inside a character, or at bytes
 // that are no UTF-8.
+#[tactic(auto, using(crate::proofs::Firsts::first_is, crate::proofs::Firsts::first_char_stands, crate::proofs::Firsts::first_none, std::proofs::lemmas::Slice::between_to_end))]
 pub fn scalar_at(text: &[u8], at: usize) -> Option<char>
     ensures scalar { result ≡ first_char (drop at text.now) }
     ensures meaning { FirstCharStands }
